@@ -1,0 +1,6 @@
+pub mod Fills
+pub mod Lying
+pub mod Members
+pub mod Hulls
+pub mod Least
+pub mod Enumerated

@@ -1,0 +1,5 @@
+pub mod Refusals
+pub mod WindowSets
+pub mod Schedules
+pub mod Hulls
+pub mod Filling
