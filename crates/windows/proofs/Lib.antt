@@ -4,3 +4,4 @@ pub mod Members
 pub mod Hulls
 pub mod Least
 pub mod Enumerated
+pub mod Held

@@ -49,6 +49,11 @@ kept-out {X} p x (y ∷ xs) m = go (p y) refl m (kept-out p x xs)
     go true f (inr l) r = (inr (r l .0), r l .1)
     go false f l r = (inr (r l .0), r l .1)
 
+-- Tests that agree on a list keep the same of it.
+pub kept-same : {X : Type 0} (p q : X → Bool) (xs : List X) → ((x : X) → Among x xs → p x ≡ q x) → kept p xs ≡ kept q xs
+kept-same p q [] h = refl
+kept-same p q (x ∷ xs) h = ap (λ b. cond b (x ∷ kept p xs) (kept p xs)) (h x (inl refl)) ∙ ap (λ l. cond (q x) (x ∷ l) l) (kept-same p q xs (λ y m. h y (inr m)))
+
 pub map-in : {X Y : Type 0} (f : X → Y) (x : X) (xs : List X) → Among x xs → Among (f x) (map f xs)
 map-in f x [] m = absurd m
 map-in f x (y ∷ xs) (inl e) = inl (ap f e)

@@ -1,0 +1,21 @@
+-- What a value of the type of batches holds.
+use mathlib.Core.Path.{_≡_}
+use mathlib.Core.List.{List}
+use Prim.Native.Nat.{ℕ}
+use lib.ListN.{take}
+use Rattle.line.specs.declared.batch.Batch.{Batch}
+use Rattle.sweep.specs.declared.batches.Batches.{Batches}
+
+-- Its batches, in their order.
+abbrev pub listed : Batches → List Batch
+listed b = take (b .count) (b .each)
+
+-- Its last period.
+abbrev pub last-of : Batches → ℕ
+last-of b = b .last
+
+-- It was made from the first n entries of a table of batches.
+pub record Holds (n last : ℕ) (bs : List Batch) (b : Batches) : Type 0 where
+  pub same-count : b .count ≡ n
+  pub same-last : b .last ≡ last
+  pub same-each : b .each ≡ bs

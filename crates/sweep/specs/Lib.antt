@@ -1,0 +1,4 @@
+pub mod Feasible
+pub mod Charges
+pub mod Turns
+pub mod Held

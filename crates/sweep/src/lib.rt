@@ -1,0 +1,7 @@
+mod batches;
+mod placing;
+
+pub use batches::Batches;
+
+#[cfg(test)]
+mod tests;
