@@ -60,13 +60,14 @@ module _ (n T P : ℕ) (cs ds : List ℕ) (ws : List Window) (fits : same-size n
       record {
         size = omega arith;
         within = λ k h. (
-          let here : k < length ws = omega arith in
-          let c = clipped-at ds ws k even here in
-          omega (arith, ap (λ b. b .earliest) c, ap (λ b. b .latest) c, ok .0 .not-before k here, ok .0 .not-after k here, on-time-at ds x (a .prompt) k (omega (arith, even))));
+            let here : k < length ws = omega arith in
+            let c = clipped-at ds ws k even here in
+            omega (arith, ap (λ b. b .earliest) c, ap (λ b. b .latest) c, ok .0 .not-before k here, ok .0 .not-after k here, on-time-at ds x (a .prompt) k (omega (arith, even))));
         fits = λ t pos le. (
-          let z : 1 + (t - 1) ≡ t = omega arith in
-          let same = sized .1 in
-          omega (arith, ap (λ s. count s x) z, within-at (take T cs) 1 x (a .held) (t - 1) (omega (arith, caps)), getD-take T cs (t - 1) 0 (omega arith))) }
+            let z : 1 + (t - 1) ≡ t = omega arith in
+            let same = sized .1 in
+            omega (arith, ap (λ s. count s x) z, within-at (take T cs) 1 x (a .held) (t - 1) (omega (arith, caps)), getD-take T cs (t - 1) 0 (omega arith)));
+      }
 
   pub fits-to : (x : List ℕ) → Fits bs cs P x → Passes (flat-allows n T (take T cs) ds P) ws x
   fits-to x ok =
@@ -74,19 +75,20 @@ module _ (n T P : ℕ) (cs ds : List ℕ) (ws : List Window) (fits : same-size n
       let size = ok .size in
       let same = sized .1 in
       let inside : (k : ℕ) → k < length ws → (earliest-of ws k ≤ getD x k 0) × (getD x k 0 ≤ min (latest-of ws k) (getD ds k 0)) = λ k h. (
-          let c = clipped-at ds ws k even h in
-          omega (arith, ap (λ b. b .earliest) c, ap (λ b. b .latest) c, ok .within k (omega arith))) in
-      (
+      let c = clipped-at ds ws k even h in
+      omega (arith, ap (λ b. b .earliest) c, ap (λ b. b .latest) c, ok .within k (omega arith))) in (
         record {
           same-size = omega arith;
           not-before = λ k h. inside k h .0;
-          not-after = λ k h. omega (arith, inside k h .1) },
+          not-after = λ k h. omega (arith, inside k h .1);
+        },
         allows n T (take T cs) ds P x (record {
           prompt = on-time-from ds x (omega (arith, even)) (λ k h. omega (arith, inside k (omega (arith, even)) .1));
           fits = subst (λ (m : ℕ). same-size n T m P ≡ true) (omega arith) fits;
           held = within-from (take T cs) 1 x (λ k h.
-            (let z : 1 + k - 1 ≡ k = omega arith in
-             omega (arith, ok .fits (1 + k) (omega arith) (omega (arith, caps)), ap (λ a. getD cs a 0) z, getD-take T cs k 0 (omega (arith, caps))))) }),
+              (let z : 1 + k - 1 ≡ k = omega arith in
+              omega (arith, ok .fits (1 + k) (omega arith) (omega (arith, caps)), ap (λ a. getD cs a 0) z, getD-take T cs k 0 (omega (arith, caps)))));
+        }),
       )
 
   pub cheap-from : (limit : ℕ) (x : List ℕ) → Passes (flat-within n T (take T cs) ds P limit) ws x → Fits bs cs P x × (charge (λ _. 1) bs x ≤ limit)

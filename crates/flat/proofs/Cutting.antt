@@ -72,10 +72,13 @@ module _ (f : Flat) (w : Windows) where
     where
       p : Proper (set-of w)
       p = held-proper w
+
       wide : length ws ≡ n
       wide = same-size-parts n T (length ws) P fits .0
+
       due : (k : ℕ) → k < m → getD ds k 0 ≡ getD (f .dues) k 0
       due k h = getD-take n (f .dues) k 0 (omega (arith, wide))
+
       sound : (x : List ℕ) → Passes (flat-allows n T (take T cs) ds P) ws x → Sound m Q each
       sound x ok =
           let a = allowed n T (take T cs) ds P x (ok .1) in
@@ -85,17 +88,20 @@ module _ (f : Flat) (w : Windows) where
             starts = λ k h. omega (arith, ap (λ b. b .earliest) (is k h), p .starts k (omega arith));
             holds = λ k h. omega (arith, ap (λ b. b .earliest) (is k h), ap (λ b. b .latest) (is k h), due k h, ok .0 .not-before k (omega arith), ok .0 .not-after k (omega arith), on-time-at ds x (a .prompt) k (omega (arith, dated, wide)));
             ends = λ k h. omega (arith, ap (λ b. b .latest) (is k h), p .ends k (omega arith));
-            timely = λ k h. omega (arith, ap (λ b. b .latest) (is k h), ap (λ b. b .due) (is k h)) }
+            timely = λ k h. omega (arith, ap (λ b. b .latest) (is k h), ap (λ b. b .due) (is k h));
+          }
+
       same : (b : Batches) → Holds m Q each b → listed b ≡ clipped ds ws
       same b h =
           let e : listed b ≡ take m each = ap (λ (k : ℕ). take k (b .each)) (h .same-count) ∙ ap (take m) (h .same-each) in
           let even : length ds ≡ length ws = dated ∙ sym wide in
           let l = length-take-le m each (omega (arith, long, mn, p .few)) in
           e ∙ ext-getD no-batch (take m each) (clipped ds ws) (omega (arith, l, length-clipped ds ws even)) (λ k h.
-            (let here : k < m = omega arith in
-             getD-take m each k no-batch here ∙ is k here ∙
-             ap (λ (d : ℕ). record { earliest = earliest-of ws k; latest = min (latest-of ws k) d; due = d; rate = 1 }) (sym (due k here)) ∙
-             sym (clipped-at ds ws k even (omega arith))))
+          (let here : k < m = omega arith in
+          getD-take m each k no-batch here ∙ is k here ∙
+          ap (λ (d : ℕ). record { earliest = earliest-of ws k; latest = min (latest-of ws k) d; due = d; rate = 1 }) (sym (due k here)) ∙
+          sym (clipped-at ds ws k even (omega arith))))
+
       go : (r : Option Batches) → BySome r (Sound m Q each → ⊥) (λ b. Holds m Q each b) → BySome r (Nothing-allowed f w) (λ b. Clips f w b)
       go None h = λ x ok. h (sound x ok)
       go (Some b) h = record { fits = fits; batches = same b h; periods = h .same-last ∙ qp }
@@ -132,7 +138,7 @@ module _ (f : Flat) (w : Windows) where
     some-floor p h =
         let x = take (length (listed b)) p in
         cost x ∙ sym (floor-is (waited ds) (flat-allows n T (take T cs) ds P) ws x (fits-to n T P cs ds ws (c .fits) dated room x (here x (h .fits)))
-          (λ y ok. omega (arith, cost x, cost y, h .least y (there y (fits-from n T P cs ds ws (c .fits) dated room y ok)))))
+        (λ y ok. omega (arith, cost x, cost y, h .least y (there y (fits-from n T P cs ds ws (c .fits) dated room y ok)))))
 
     pub full-floor : Impossible (listed b) cs (last-of b) → max-charge ≡ flat-of f .floor (set-of w)
     full-floor h = none-floor (λ x ok. h x (there x (fits-from n T P cs ds ws (c .fits) dated room x ok)))
@@ -168,9 +174,11 @@ module _ (f : Flat) (w : Windows) where
             lies = λ x ok. record {
               same-size = omega (arith, ok .0 .same-size, mn, long);
               not-before = λ k i. omega (arith, at-low k (omega (arith, long)), h .above k (omega (arith, long, size)) x (good-from limit x ok));
-              not-after = λ k i. omega (arith, at-high k (omega (arith, long)), h .below k (omega (arith, long, size)) x (good-from limit x ok)) };
+              not-after = λ k i. omega (arith, at-high k (omega (arith, long)), h .below k (omega (arith, long, size)) x (good-from limit x ok));
+            };
             first = λ k i. (let s = h .supported .first k (omega (arith, long, size)) in (s .0, good-to limit (s .0) (s .1), s .2 ∙ sym (at-low k (omega (arith, long)))));
-            final = λ k i. (let s = h .supported .final k (omega (arith, long, size)) in (s .0, good-to limit (s .0) (s .1), s .2 ∙ sym (at-high k (omega (arith, long))))) }
+            final = λ k i. (let s = h .supported .final k (omega (arith, long, size)) in (s .0, good-to limit (s .0) (s .1), s .2 ∙ sym (at-high k (omega (arith, long)))));
+          }
 
       is : flat-of f .cut (set-of w) limit ≡ Some (record { periods = Q; each = paired es ls })
       is = enumerated-is (flat-within n T (take T cs) ds P limit) P ws (paired es ls) hulled ∙ ap (λ (q : ℕ). Some (record { periods = q; each = paired es ls })) (sym qp)

@@ -26,20 +26,22 @@ module _ (b : Batches) (cs : List ℕ) (limit : ℕ) where
   taken-supported d e p t good ok =
       record {
         first = λ k h. ⊎-elim
-          (λ l. (take (length (listed b)) p, good, omega (arith, getD-take (length (listed b)) p k 0 h, t .first k h)))
-          (λ l. (let s = ok .first k h in (s .0, s .1, omega (arith, s .2, t .first k h))))
-          (cases-lt (getD p k 0) (getD (d .earliest) k 0));
+            (λ l. (take (length (listed b)) p, good, omega (arith, getD-take (length (listed b)) p k 0 h, t .first k h)))
+            (λ l. (let s = ok .first k h in (s .0, s .1, omega (arith, s .2, t .first k h))))
+            (cases-lt (getD p k 0) (getD (d .earliest) k 0));
         final = λ k h. ⊎-elim
-          (λ l. (take (length (listed b)) p, good, omega (arith, getD-take (length (listed b)) p k 0 h, t .final k h)))
-          (λ l. (let s = ok .final k h in (s .0, s .1, omega (arith, s .2, t .final k h))))
-          (cases-lt (getD (d .latest) k 0) (getD p k 0)) }
+            (λ l. (take (length (listed b)) p, good, omega (arith, getD-take (length (listed b)) p k 0 h, t .final k h)))
+            (λ l. (let s = ok .final k h in (s .0, s .1, omega (arith, s .2, t .final k h))))
+            (cases-lt (getD (d .latest) k 0) (getD p k 0));
+      }
 
   -- The ends of one good schedule.
   pub alone-supported : (e : Ends) (p : List ℕ) → e .earliest ≡ p → e .latest ≡ p → Good b cs limit (take (length (listed b)) p) → Supported b cs limit e
   alone-supported e p low high good =
       record {
         first = λ k h. (take (length (listed b)) p, good, getD-take (length (listed b)) p k 0 h ∙ ap (λ (l : List ℕ). getD l k 0) (sym low));
-        final = λ k h. (take (length (listed b)) p, good, getD-take (length (listed b)) p k 0 h ∙ ap (λ (l : List ℕ). getD l k 0) (sym high)) }
+        final = λ k h. (take (length (listed b)) p, good, getD-take (length (listed b)) p k 0 h ∙ ap (λ (l : List ℕ). getD l k 0) (sym high));
+      }
 
   -- The schedule p, with batch i in period v, is taken into ends d that are those of the start, a.
   module _ (a d e : Ends) (p : List ℕ) (i v : ℕ) (same : d ≡ a) (taken : Taken d p e) (good : Good b cs limit (take (length (listed b)) p)) (has : Has i v (take (length (listed b)) p)) (one : i < length (listed b)) (ok : Supported b cs limit a) where

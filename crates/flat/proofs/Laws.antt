@@ -55,11 +55,13 @@ slots-lawful n T cs =
       cut-inside = λ w v limit p c e. enumerated-inside (slots-allows n T cs (w .periods)) w v p e;
       cut-keeps = λ w v limit x p c e l a b. enumerated-keeps (slots-allows n T cs (w .periods)) w v x e l a;
       cut-none = λ w limit x p c e l a b. enumerated-none (slots-allows n T cs (w .periods)) (w .periods) (w .each) x e (l, a);
-      cut-single = λ w v limit x p c s e. (enumerated-single (slots-allows n T cs (w .periods)) w v x s e, omega arith) }
+      cut-single = λ w v limit x p c s e. (enumerated-single (slots-allows n T cs (w .periods)) w v x s e, omega arith);
+    }
   where
     low : (b : Bool) → cond b 0 max-charge ≤ max-charge
     low true = omega arith
     low false = omega arith
+
     zero-floor : (w : WindowSet) (x : List ℕ) → length x ≡ length (w .each) → slots-allows n T cs (w .periods) x ≡ true → cond (same-size n T (length (w .each)) (w .periods)) 0 max-charge ≡ 0
     zero-floor w x e a = cond-true (same-size n T (length (w .each)) (w .periods)) 0 max-charge (fit-of n T (w .periods) x (w .each) e (and-parts (same-size n T (length x) (w .periods)) (within cs 1 x) a .0))
 
@@ -77,11 +79,14 @@ flat-lawful n T cs ds few soon =
       cut-inside = λ w v limit p c e. enumerated-inside (flat-within n T cs ds (w .periods) limit) w v p e;
       cut-keeps = λ w v limit x p c e l a d. enumerated-keeps (flat-within n T cs ds (w .periods) limit) w v x e l (passes w limit x a d);
       cut-none = λ w limit x p c e l a d. enumerated-none (flat-within n T cs ds (w .periods) limit) (w .periods) (w .each) x e (l, passes w limit x a d);
-      cut-single = λ w v limit x p c s e. (let r = and-parts (flat-allows n T cs ds (w .periods) x) (leb (waited ds x) limit) (enumerated-single (flat-within n T cs ds (w .periods) limit) w v x s e) in (r .0, leb-true (waited ds x) limit (r .1))) }
+      cut-single = λ w v limit x p c s e. (let r = and-parts (flat-allows n T cs ds (w .periods) x) (leb (waited ds x) limit) (enumerated-single (flat-within n T cs ds (w .periods) limit) w v x s e) in (r .0, leb-true (waited ds x) limit (r .1)));
+    }
   where
     low : (P : ℕ) (x : List ℕ) → flat-allows n T cs ds P x ≡ true → waited ds x ≤ max-charge
     low P x e = let s = same-size-parts n T (length x) P (allowed n T cs ds P x e .fits) .0 in omega (arith, waited-bound ds x soon)
+
     only : (w : WindowSet) (x y : List ℕ) → Single (w .each) x → Lies y (w .each) → waited ds x ≤ waited ds y
     only w x y s l = omega (arith, ap (waited ds) (single-lies-is (w .each) x y s l))
+
     passes : (w : WindowSet) (limit : ℕ) (x : List ℕ) → flat-allows n T cs ds (w .periods) x ≡ true → waited ds x ≤ limit → flat-within n T cs ds (w .periods) limit x ≡ true
     passes w limit x a d = and-from (flat-allows n T cs ds (w .periods) x) (leb (waited ds x) limit) a (le-leb (waited ds x) limit d)

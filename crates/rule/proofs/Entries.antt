@@ -58,10 +58,10 @@ table-is n vs ts m long is front rest =
     let l : length (vs ++ replicate n 0) ≡ length vs + n = length-append vs (replicate n 0) ∙ ap (λ a. length vs + a) (length-zeros n) in
     let t = length-take-le n (vs ++ replicate n 0) (omega arith) in
     ext-getD 0 ts (take n (vs ++ replicate n 0)) (long ∙ sym t) (λ k h.
-      ⊎-elim
-      (λ below. front k below)
-      (λ above. rest k above ∙ sym (getD-past vs k 0 (omega arith)))
-      (cases-lt k m) ∙ sym (getD-take n (vs ++ replicate n 0) k 0 (omega arith) ∙ padded-at n vs k))
+    ⊎-elim
+    (λ below. front k below)
+    (λ above. rest k above ∙ sym (getD-past vs k 0 (omega arith)))
+    (cases-lt k m) ∙ sym (getD-take n (vs ++ replicate n 0) k 0 (omega arith) ∙ padded-at n vs k))
 
 -- The table of a list that is not too long begins with the list.
 pub length-padded : (n : ℕ) (vs : List ℕ) → length (take n (vs ++ replicate n 0)) ≡ n
@@ -81,8 +81,8 @@ pub padded-most : (n b : ℕ) (vs : List ℕ) → ((k : ℕ) → k < length vs �
 padded-most n b vs h k =
     ⊎-elim
     (λ inn. ⊎-elim
-      (λ here. omega (arith, padded-entry n vs k inn, h k here))
-      (λ past. omega (arith, padded-entry n vs k inn, getD-past vs k 0 past))
-      (cases-lt k (length vs)))
+    (λ here. omega (arith, padded-entry n vs k inn, h k here))
+    (λ past. omega (arith, padded-entry n vs k inn, getD-past vs k 0 past))
+    (cases-lt k (length vs)))
     (λ out. omega (arith, getD-past (take n (vs ++ replicate n 0)) k 0 (omega (arith, length-padded n vs))))
     (cases-lt k n)

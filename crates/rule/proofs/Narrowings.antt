@@ -33,6 +33,7 @@ module _ (m : Meaning) (limit : ℕ) (w : Windows) where
     where
       past-8 : struck (narrow-checks m limit (set-of w)) ≡ cond (none (m .cut (set-of w) limit)) 9 0
       past-8 = past-7 e ∙ cond-false _ 8 _ (le-ltb max-charge limit h)
+
       go : (r : Result (Unit {0}) Refusal) → Cut-to (m .cut (set-of w) limit) w v r → Narrowed m limit w v r
       go (Ok u) c = (past-8 ∙ ap (λ (o : Option WindowSet). cond (none o) 9 0) c, c)
       go (Err f) c = (past-8 ∙ ap (λ (o : Option WindowSet). cond (none o) 9 0) (c .0) ∙ ap number (sym (c .1)), c .2)

@@ -27,7 +27,7 @@ fn draw_row(rt: &LibcRuntime, windows: &Windows, batch: usize) -> io::Result<()>
 }
 
 // Draws a set of windows, a batch to a row.
-pub fn draw(rt: &LibcRuntime, windows: &Windows) -> io::Result<()> {
+pub(crate) fn draw(rt: &LibcRuntime, windows: &Windows) -> io::Result<()> {
     for batch in 1..=windows.batches() {
         draw_row(rt, windows, batch)?;
     }

@@ -32,7 +32,13 @@ fn ask(rt: &LibcRuntime, windows: &Windows, batch: usize) -> io::Result<()> {
 }
 
 // Narrows the windows by a rule and draws what is left.
-fn narrow<R: Rule>(rt: &LibcRuntime, name: &str, rule: &R, windows: &mut Windows, limit: u64) -> io::Result<()> {
+fn narrow<R: Rule>(
+    rt: &LibcRuntime,
+    name: &str,
+    rule: &R,
+    windows: &mut Windows,
+    limit: u64,
+) -> io::Result<()> {
     print!(rt, "narrow by {name} under the cap {limit}")?;
     report(rt, "", rule.narrow(windows, limit))?;
     draw(rt, windows)
@@ -40,23 +46,49 @@ fn narrow<R: Rule>(rt: &LibcRuntime, name: &str, rule: &R, windows: &mut Windows
 
 // Three batches, two of which need the last two of four periods: the first period takes none.
 fn by_slots(rt: &LibcRuntime) -> io::Result<()> {
-    println!(rt, "-- Slots: three batches over four periods, capacities 0, 1, 1, 1")?;
+    println!(
+        rt,
+        "-- Slots: three batches over four periods, capacities 0, 1, 1, 1"
+    )?;
     let mut windows = Windows::new();
-    report(rt, "fill windows 3-4, 3-4, 1-4", windows.fill(3, 4, &[3, 3, 1], &[4, 4, 4]))?;
+    report(
+        rt,
+        "fill windows 3-4, 3-4, 1-4",
+        windows.fill(3, 4, &[3, 3, 1], &[4, 4, 4]),
+    )?;
     draw(rt, &windows)?;
     let mut slots = Slots::new();
-    report(rt, "fill capacities 0, 1, 1, 33", slots.fill(3, 4, &[0, 1, 1, 33]))?;
-    report(rt, "fill capacities 0, 1, 1, 1", slots.fill(3, 4, &[0, 1, 1, 1]))?;
+    report(
+        rt,
+        "fill capacities 0, 1, 1, 33",
+        slots.fill(3, 4, &[0, 1, 1, 33]),
+    )?;
+    report(
+        rt,
+        "fill capacities 0, 1, 1, 1",
+        slots.fill(3, 4, &[0, 1, 1, 1]),
+    )?;
     narrow(rt, "Slots", &slots, &mut windows, 0)
 }
 
 // Five batches that wait as little as eight periods of capacity one allow.
 fn by_flat(rt: &LibcRuntime) -> io::Result<()> {
-    println!(rt, "-- Flat: five batches over eight periods, capacities 1, due 3, 6, 7, 7, 8")?;
+    println!(
+        rt,
+        "-- Flat: five batches over eight periods, capacities 1, due 3, 6, 7, 7, 8"
+    )?;
     let mut windows = Windows::new();
     let latest = [3, 6, 7, 7, 8];
-    report(rt, "fill windows 1-3, 1-6, 1-7, 1-7, 1-9", windows.fill(5, 8, &[1; 5], &[3, 6, 7, 7, 9]))?;
-    report(rt, "fill windows 1-3, 1-6, 1-7, 1-7, 1-8", windows.fill(5, 8, &[1; 5], &latest))?;
+    report(
+        rt,
+        "fill windows 1-3, 1-6, 1-7, 1-7, 1-9",
+        windows.fill(5, 8, &[1; 5], &[3, 6, 7, 7, 9]),
+    )?;
+    report(
+        rt,
+        "fill windows 1-3, 1-6, 1-7, 1-7, 1-8",
+        windows.fill(5, 8, &[1; 5], &latest),
+    )?;
     ask(rt, &windows, 2)?;
     ask(rt, &windows, 6)?;
     draw(rt, &windows)?;
@@ -72,7 +104,10 @@ fn by_flat(rt: &LibcRuntime) -> io::Result<()> {
 }
 
 fn main(rt: LibcRuntime) -> io::Result<()> {
-    println!(rt, "Windows are drawn a batch to a row and a period to a column: # open, * the only one left, . closed")?;
+    println!(
+        rt,
+        "Windows are drawn a batch to a row and a period to a column: # open, * the only one left, . closed"
+    )?;
     by_slots(&rt)?;
     by_flat(&rt)
 }

@@ -72,15 +72,17 @@ module _ (charge : List ℕ → ℕ) (p : List ℕ → Bool) (ws : List Window) 
         at = r .0;
         passes = passes-out p ws (r .0) (r .1);
         is = r .2;
-        below = λ y h. l .below (charge y) (map-in charge y (kept p (schedules ws)) (passes-in p ws y h)) }
+        below = λ y h. l .below (charge y) (map-in charge y (kept p (schedules ws)) (passes-in p ws y h));
+      }
 
   pub cheapest-none : (x : List ℕ) → least (map charge (kept p (schedules ws))) ≡ None → Passes p ws x → ⊥
   cheapest-none x e h = least-none (map charge (kept p (schedules ws))) (charge x) e (map-in charge x (kept p (schedules ws)) (passes-in p ws x h))
 
   pub cheapest-is : (a : ℕ) → Cheapest charge p ws a → least (map charge (kept p (schedules ws))) ≡ Some a
   cheapest-is a c = least-is (map charge (kept p (schedules ws))) a (record {
-      attained = subst (λ (b : ℕ). Among b (map charge (kept p (schedules ws)))) (c .is) (map-in charge (c .at) (kept p (schedules ws)) (passes-in p ws (c .at) (c .passes)));
-      below = λ b m. (let r = map-out charge b (kept p (schedules ws)) m in omega (arith, r .2, c .below (r .0) (passes-out p ws (r .0) (r .1)))) })
+    attained = subst (λ (b : ℕ). Among b (map charge (kept p (schedules ws)))) (c .is) (map-in charge (c .at) (kept p (schedules ws)) (passes-in p ws (c .at) (c .passes)));
+    below = λ b m. (let r = map-out charge b (kept p (schedules ws)) m in omega (arith, r .2, c .below (r .0) (passes-out p ws (r .0) (r .1))));
+  })
 
   pub cheapest-empty : ((x : List ℕ) → Passes p ws x → ⊥) → least (map charge (kept p (schedules ws))) ≡ None
   cheapest-empty e = least-empty (map charge (kept p (schedules ws))) (λ b m. (let r = map-out charge b (kept p (schedules ws)) m in e (r .0) (passes-out p ws (r .0) (r .1))))

@@ -27,7 +27,8 @@ held-proper w =
       few = omega (arith, w .few);
       starts = λ k h. (let c : k < w .count = omega arith in omega (arith, w .starts k c, ap (λ v. v .earliest) (getD-take (w .count) (w .each) k nowhere c)));
       holds = λ k h. (let c : k < w .count = omega arith in let e = getD-take (w .count) (w .each) k nowhere c in omega (arith, w .holds k c, ap (λ v. v .earliest) e, ap (λ v. v .latest) e));
-      ends = λ k h. (let c : k < w .count = omega arith in omega (arith, w .ends k c, ap (λ v. v .latest) (getD-take (w .count) (w .each) k nowhere c))) }
+      ends = λ k h. (let c : k < w .count = omega arith in omega (arith, w .ends k c, ap (λ v. v .latest) (getD-take (w .count) (w .each) k nowhere c)));
+    }
 
 -- Lists that give a proper set are accepted.
 pub fills : (n T : ℕ) (es ls : List ℕ) → length es ≡ n → length ls ≡ n → Proper (record { periods = T; each = paired es ls }) → struck (fill-checks n T es ls) ≡ 0
@@ -38,10 +39,10 @@ fills n T es ls a b p =
     let most = p .most in
     let size : out-of-size n T ≡ false = (let c : n ≤ 32 = omega arith in grind (arith, tells)) in
     fill-accepted n T es ls size a b (none-bad T es ls (a ∙ sym b) (λ k h.
-      (let e = paired-at es ls k (a ∙ sym b) h in
-       let low = ap (λ v. v .earliest) e in
-       let high = ap (λ v. v .latest) e in
-       not-good T (getD es k 0) (getD ls k 0) (record { starts = omega (arith, p .starts k (omega arith)); holds = omega (arith, p .holds k (omega arith)); ends = omega (arith, p .ends k (omega arith)) }))))
+    (let e = paired-at es ls k (a ∙ sym b) h in
+    let low = ap (λ v. v .earliest) e in
+    let high = ap (λ v. v .latest) e in
+    not-good T (getD es k 0) (getD ls k 0) (record { starts = omega (arith, p .starts k (omega arith)); holds = omega (arith, p .holds k (omega arith)); ends = omega (arith, p .ends k (omega arith)) }))))
 
 -- No refusal has the number 0, which says that no check strikes.
 pub numbered : (e : Refusal) → 1 ≤ number e

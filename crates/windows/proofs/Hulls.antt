@@ -30,19 +30,22 @@ hull-same P Q vs to back h =
       some = (h .some .0, to (h .some .0) (h .some .1));
       lies = λ x q. h .lies x (back x q);
       first = λ k b. (let r = h .first k b in (r .0, to (r .0) (r .1), r .2));
-      final = λ k b. (let r = h .final k b in (r .0, to (r .0) (r .1), r .2)) }
+      final = λ k b. (let r = h .final k b in (r .0, to (r .0) (r .1), r .2));
+    }
 
 pub hull-unique : (P : List ℕ → Type 0) (us vs : List Window) → Hull P us → Hull P vs → us ≡ vs
 hull-unique P us vs g h = ext-getD nowhere us vs long (λ k b. same-window (earliest-of us k) (latest-of us k) (earliest-of vs k) (latest-of vs k) (lows k b) (highs k b))
   where
     long : length us ≡ length vs
     long = sym (g .lies (g .some .0) (g .some .1) .same-size) ∙ h .lies (g .some .0) (g .some .1) .same-size
+
     lows : (k : ℕ) → k < length us → earliest-of us k ≡ earliest-of vs k
     lows k b =
         let c : k < length vs = omega (arith, long) in
         let p = g .first k b in
         let q = h .first k c in
         omega (arith, p .2, q .2, h .lies (p .0) (p .1) .not-before k c, g .lies (q .0) (q .1) .not-before k b)
+
     highs : (k : ℕ) → k < length us → latest-of us k ≡ latest-of vs k
     highs k b =
         let c : k < length vs = omega (arith, long) in
@@ -59,8 +62,10 @@ hull-inside P vs ws h l = record { same-size = long; not-before = not-before; no
   where
     long : length vs ≡ length ws
     long = sym (h .lies (h .some .0) (h .some .1) .same-size) ∙ l (h .some .0) (h .some .1) .same-size
+
     not-before : (k : ℕ) → k < length ws → earliest-of ws k ≤ earliest-of vs k
     not-before k b = let r = h .first k (omega (arith, long)) in omega (arith, r .2, l (r .0) (r .1) .not-before k b)
+
     not-after : (k : ℕ) → k < length ws → latest-of vs k ≤ latest-of ws k
     not-after k b = let r = h .final k (omega (arith, long)) in omega (arith, r .2, l (r .0) (r .1) .not-after k b)
 
@@ -87,7 +92,8 @@ alone-hull x =
       some = (x, refl);
       lies = λ y e. subst (λ (z : List ℕ). Lies z (alone x)) e (lies-alone x);
       first = λ k b. (x, refl, sym (earliest-alone x k));
-      final = λ k b. (x, refl, sym (latest-alone x k)) }
+      final = λ k b. (x, refl, sym (latest-alone x k));
+    }
 
 length-cover : (ws : List Window) (x : List ℕ) → length x ≡ length ws → length (cover ws x) ≡ length ws
 length-cover [] x e = refl
@@ -112,39 +118,46 @@ cover-hull P ws x h e =
   where
     n : length (cover ws x) ≡ length ws
     n = length-cover ws x e
+
     lies : (y : List ℕ) → P y ⊎ (x ≡ y) → Lies y (cover ws x)
     lies y (inl p) = let l = h .lies y p in record {
       same-size = l .same-size ∙ sym n;
       not-before = λ k b. (let c : k < length ws = omega (arith, n) in omega (arith, earliest-cover ws x k e c, l .not-before k c));
-      not-after = λ k b. (let c : k < length ws = omega (arith, n) in omega (arith, latest-cover ws x k e c, l .not-after k c)) }
+      not-after = λ k b. (let c : k < length ws = omega (arith, n) in omega (arith, latest-cover ws x k e c, l .not-after k c));
+    }
     lies y (inr q) = subst (λ (z : List ℕ). Lies z (cover ws x)) q (record {
       same-size = e ∙ sym n;
       not-before = λ k b. (let c : k < length ws = omega (arith, n) in omega (arith, earliest-cover ws x k e c));
-      not-after = λ k b. (let c : k < length ws = omega (arith, n) in omega (arith, latest-cover ws x k e c)) })
+      not-after = λ k b. (let c : k < length ws = omega (arith, n) in omega (arith, latest-cover ws x k e c));
+    })
+
     first : (k : ℕ) → k < length (cover ws x) → (y : List ℕ) × (P y ⊎ (x ≡ y)) × (getD y k 0 ≡ earliest-of (cover ws x) k)
     first k b =
         let c : k < length ws = omega (arith, n) in
         let f = earliest-cover ws x k e c in
         let r = h .first k c in
         elim (cases-lt (getD x k 0) (earliest-of ws k)) [
-          inl l ↦ (x, inr refl, omega arith)
-        | inr g ↦ (r .0, inl (r .1), omega (arith, r .2)) ]
+          | inl l ↦ (x, inr refl, omega arith)
+          | inr g ↦ (r .0, inl (r .1), omega (arith, r .2))
+        ]
+
     final : (k : ℕ) → k < length (cover ws x) → (y : List ℕ) × (P y ⊎ (x ≡ y)) × (getD y k 0 ≡ latest-of (cover ws x) k)
     final k b =
         let c : k < length ws = omega (arith, n) in
         let f = latest-cover ws x k e c in
         let r = h .final k c in
         elim (cases-lt (latest-of ws k) (getD x k 0)) [
-          inl l ↦ (x, inr refl, omega arith)
-        | inr g ↦ (r .0, inl (r .1), omega (arith, r .2)) ]
+          | inl l ↦ (x, inr refl, omega arith)
+          | inr g ↦ (r .0, inl (r .1), omega (arith, r .2))
+        ]
 
 pub covers-hull : (P : List ℕ → Type 0) (ws : List Window) (xs : List (List ℕ)) → Hull P ws → ((x : List ℕ) → Among x xs → length x ≡ length ws) → Hull (λ x. P x ⊎ Among x xs) (covers ws xs)
 covers-hull P ws [] h e = hull-same P (λ x. P x ⊎ ⊥) ws (λ x p. inl p) (λ x q. elim q [ inl p ↦ p | inr m ↦ absurd m ]) h
 covers-hull P ws (x ∷ xs) h e =
     hull-same (λ y. (P y ⊎ (x ≡ y)) ⊎ Among y xs) (λ y. P y ⊎ ((x ≡ y) ⊎ Among y xs)) (covers (cover ws x) xs)
-      (λ y q. elim q [ inl (inl p) ↦ inl p | inl (inr f) ↦ inr (inl f) | inr m ↦ inr (inr m) ])
-      (λ y q. elim q [ inl p ↦ inl (inl p) | inr (inl f) ↦ inl (inr f) | inr (inr m) ↦ inr m ])
-      (covers-hull (λ y. P y ⊎ (x ≡ y)) (cover ws x) xs (cover-hull P ws x h (e x (inl refl))) (λ y m. e y (inr m) ∙ sym (length-cover ws x (e x (inl refl)))))
+    (λ y q. elim q [ inl (inl p) ↦ inl p | inl (inr f) ↦ inr (inl f) | inr m ↦ inr (inr m) ])
+    (λ y q. elim q [ inl p ↦ inl (inl p) | inr (inl f) ↦ inl (inr f) | inr (inr m) ↦ inr m ])
+    (covers-hull (λ y. P y ⊎ (x ≡ y)) (cover ws x) xs (cover-hull P ws x h (e x (inl refl))) (λ y m. e y (inr m) ∙ sym (length-cover ws x (e x (inl refl)))))
 
 -- The hull of a list of schedules of one length.
 listed : (x : List ℕ) (xs : List (List ℕ)) (n : ℕ) → ((y : List ℕ) → Among y (x ∷ xs) → length y ≡ n) → Hull (λ y. Among y (x ∷ xs)) (covers (alone x) xs)
@@ -168,4 +181,3 @@ hull-is T (x ∷ xs) vs h = ap (λ (us : List Window). Some (record { periods = 
 pub hull-empty : (T : ℕ) (S : List (List ℕ)) → ((x : List ℕ) → Among x S → ⊥) → hull T S ≡ None
 hull-empty T [] e = refl
 hull-empty T (x ∷ xs) e = absurd (e x (inl refl))
-

@@ -19,9 +19,11 @@ least-cons a (b ∷ xs) = go (least-cons (min a b) xs)
       where
         first : (c : ℕ) → min a b ≡ c → Among c (a ∷ (b ∷ xs))
         first c e = elim (cases-lt b a) [ inl l ↦ inr (inl (omega arith)) | inr g ↦ inl (omega arith) ]
+
         found : Among (least-of (min a b) xs) (min a b ∷ xs) → Among (least-of (min a b) xs) (a ∷ (b ∷ xs))
         found (inl e) = first (least-of (min a b) xs) e
         found (inr m) = inr (inr m)
+
         below : (c : ℕ) → Among c (a ∷ (b ∷ xs)) → least-of (min a b) xs ≤ c
         below c (inl e) = omega (arith, r .below (min a b) (inl refl))
         below c (inr (inl e)) = omega (arith, r .below (min a b) (inl refl))
@@ -45,4 +47,3 @@ least-is (b ∷ xs) a l = ap (λ (c : ℕ). Some c) (least-unique (b ∷ xs) (le
 pub least-empty : (xs : List ℕ) → ((b : ℕ) → Among b xs → ⊥) → least xs ≡ None
 least-empty [] e = refl
 least-empty (b ∷ xs) e = absurd (e b (inl refl))
-

@@ -18,6 +18,7 @@ lies-cons a x w ws lo hi l = record { same-size = ap suc (l .same-size); not-bef
     not-before : (k : ℕ) → k < length (w ∷ ws) → earliest-of (w ∷ ws) k ≤ getD (a ∷ x) k 0
     not-before zero h = lo
     not-before (suc k) h = l .not-before k (le-of-suc-le-suc h)
+
     not-after : (k : ℕ) → k < length (w ∷ ws) → getD (a ∷ x) k 0 ≤ latest-of (w ∷ ws) k
     not-after zero h = hi
     not-after (suc k) h = l .not-after k (le-of-suc-le-suc h)
@@ -43,5 +44,5 @@ proper-inside v w p e i h =
       few = let q = p .few in omega arith;
       starts = λ k b. omega (arith, p .starts k (omega arith), i .not-before k (omega arith));
       holds = h;
-      ends = λ k b. omega (arith, p .ends k (omega arith), i .not-after k (omega arith)) }
-
+      ends = λ k b. omega (arith, p .ends k (omega arith), i .not-after k (omega arith));
+    }

@@ -107,4 +107,3 @@ schedules-out x (w ∷ ws) m =
     let p = map-out (λ y. j .0 ∷ y) x (schedules ws) (j .2) in
     let b = periods-in-out (j .0) w (j .1) in
     subst (λ (y : List ℕ). Lies y (w ∷ ws)) (p .2) (lies-cons (j .0) (p .0) w ws (b .0) (b .1) (schedules-out (p .0) ws (p .1)))
-

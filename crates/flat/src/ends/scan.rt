@@ -4,26 +4,41 @@ ghost use mathlib.Core.List.{List};
 ghost use Prim.Native.Nat.{ℕ, _≤_, _<_, min, max};
 ghost use lib.ListN.{length, getD, take};
 ghost use Rattle.std.specs.Options.{Cases as BySome};
-ghost use Rattle.sweep.specs.Held.{listed, last-of};
-ghost use Rattle.sweep.specs.Charges.{Has};
+ghost use Rattle.sweep.specs.Held.{listed};
+ghost use Rattle.sweep.specs.Charges.{Has, charge};
 ghost use Rattle.flat.specs.Ends.{Good, Supported, Above, Below, Wider, Hulled};
 use crate::ends::Ends;
 use sweep::Batches;
+
+// The schedule, if its charge is up to the cap.
+fn affordable(batches: &Batches, placed: [u8; 32], limit: u64) -> Option<[u8; 32]>
+    ensures { λ r. ⌜ BySome r (limit < charge (λ _. 1) (listed (now (batches .entry))) (take (length (listed (now (batches .entry)))) placed)) (λ p. (p ≡ placed) × (charge (λ _. 1) (listed (now (batches .entry))) (take (length (listed (now (batches .entry)))) placed) ≤ limit)) ⌝ }
+{
+    if batches.waited(&placed) <= limit {
+        Some(placed)
+    } else {
+        None
+    }
+}
 
 // A schedule up to the cap, if there is one.
 fn any(batches: &Batches, capacities: &[u8; 64], limit: u64) -> Option<[u8; 32]>
     ensures { λ r. ⌜ BySome r ((x : List ℕ) → Good (now (batches .entry)) (now (capacities .entry)) limit x → ⊥) (λ p. Good (now (batches .entry)) (now (capacities .entry)) limit (take (length (listed (now (batches .entry)))) p)) ⌝ }
 {
-    let placed = batches.latest(capacities)?;
-    if batches.waited(&placed) <= limit { Some(placed) } else { None }
+    affordable(batches, batches.latest(capacities)?, limit)
 }
 
 // A schedule up to the cap that has batch i in period v, if there is one.
-fn any_with(batches: &Batches, capacities: &[u8; 64], limit: u64, i: usize, v: u8) -> Option<[u8; 32]>
+fn any_with(
+    batches: &Batches,
+    capacities: &[u8; 64],
+    limit: u64,
+    i: usize,
+    v: u8,
+) -> Option<[u8; 32]>
     ensures { λ r. ⌜ BySome r ((x : List ℕ) → Good (now (batches .entry)) (now (capacities .entry)) limit x → Has i v x → ⊥) (λ p. Good (now (batches .entry)) (now (capacities .entry)) limit (take (length (listed (now (batches .entry)))) p) × Has i v (take (length (listed (now (batches .entry)))) p)) ⌝ }
 {
-    let placed = batches.latest_with(capacities, i, v)?;
-    if batches.waited(&placed) <= limit { Some(placed) } else { None }
+    affordable(batches, batches.latest_with(capacities, i, v)?, limit)
 }
 
 // Moves the ends of the first `count` batches outward to hold the schedule.
@@ -92,7 +107,10 @@ pub(crate) fn ends_within(batches: &Batches, capacities: &[u8; 64], limit: u64) 
     ensures { λ r. ⌜ BySome r ((x : List ℕ) → Good (now (batches .entry)) (now (capacities .entry)) limit x → ⊥) (λ e. Hulled (now (batches .entry)) (now (capacities .entry)) limit e) ⌝ }
 {
     let placed = any(batches, capacities, limit)?;
-    let mut ends = Ends { earliest: placed, latest: placed };
+    let mut ends = Ends {
+        earliest: placed,
+        latest: placed,
+    };
     stretch(batches, capacities, limit, &mut ends);
     Some(ends)
 }

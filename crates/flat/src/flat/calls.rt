@@ -25,12 +25,25 @@ impl Flat {
     pub fn new() -> Flat
         ensures { λ r. ⌜ flat-of r ≡ flat 0 1 (0 ∷ []) [] ⌝ }
     {
-        let slots = Slots { count: 0, last: 1, capacities: [0; 64] };
-        Flat { slots, dues: [0; 32] }
+        let slots = Slots {
+            count: 0,
+            last: 1,
+            capacities: [0; 64],
+        };
+        Flat {
+            slots,
+            dues: [0; 32],
+        }
     }
 
     // Loads the capacity of each period and the due period of each batch.
-    pub fn fill(&mut self, batches: usize, periods: usize, capacities: &[u8], dues: &[u8]) -> Result<(), Refusal>
+    pub fn fill(
+        &mut self,
+        batches: usize,
+        periods: usize,
+        capacities: &[u8],
+        dues: &[u8],
+    ) -> Result<(), Refusal>
         ensures { λ r. ⌜ Loaded flat-of (flat-checks batches periods (now (capacities .entry)) (now (dues .entry))) (flat batches periods (now (capacities .entry)) (now (dues .entry))) (now (self .entry)) (now (self .exit)) r ⌝ }
     {
         if breaks_size(batches, periods) {
@@ -42,8 +55,15 @@ impl Flat {
         if some_outside(capacities, 0, 32) || some_outside(dues, 1, periods as u8) {
             return Err(Refusal::Entry);
         }
-        let slots = Slots { count: batches as u8, last: periods as u8, capacities: padded(capacities) };
-        *self = Flat { slots, dues: padded(dues) };
+        let slots = Slots {
+            count: batches as u8,
+            last: periods as u8,
+            capacities: padded(capacities),
+        };
+        *self = Flat {
+            slots,
+            dues: padded(dues),
+        };
         Ok(())
     }
 }
@@ -57,11 +77,21 @@ impl Flat {
         if !self.fits(windows.batches(), windows.periods()) {
             return None;
         }
-        let mut each = [Batch { earliest: 0, latest: 0, due: 0, rate: 1 }; 32];
+        let mut each = [Batch {
+            earliest: 0,
+            latest: 0,
+            due: 0,
+            rate: 1,
+        }; 32];
         for k in 0..windows.batches() {
             if let Some((earliest, latest)) = windows.window(k + 1) {
                 let due = self.dues[k];
-                each[k] = Batch { earliest, latest: latest.min(due), due, rate: 1 };
+                each[k] = Batch {
+                    earliest,
+                    latest: latest.min(due),
+                    due,
+                    rate: 1,
+                };
             }
         }
         Batches::new(windows.batches(), windows.periods() as u8, each)
@@ -78,7 +108,12 @@ impl Flat {
             return Err(Refusal::NoSchedule);
         };
         let n = windows.batches();
-        windows.fill(n, windows.periods(), &ends.earliest[0..n], &ends.latest[0..n])
+        windows.fill(
+            n,
+            windows.periods(),
+            &ends.earliest[0..n],
+            &ends.latest[0..n],
+        )
     }
 }
 

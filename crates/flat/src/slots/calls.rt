@@ -19,7 +19,11 @@ impl Slots {
     pub fn new() -> Slots
         ensures { λ r. ⌜ slots-of r ≡ slots 0 1 (0 ∷ []) ⌝ }
     {
-        Slots { count: 0, last: 1, capacities: [0; 64] }
+        Slots {
+            count: 0,
+            last: 1,
+            capacities: [0; 64],
+        }
     }
 
     // Loads the capacity of each period.
@@ -35,7 +39,11 @@ impl Slots {
         if some_outside(capacities, 0, 32) {
             return Err(Refusal::Entry);
         }
-        *self = Slots { count: batches as u8, last: periods as u8, capacities: padded(capacities) };
+        *self = Slots {
+            count: batches as u8,
+            last: periods as u8,
+            capacities: padded(capacities),
+        };
         Ok(())
     }
 }
@@ -48,7 +56,11 @@ pub impl Rule for Slots as SlotsRule {
     }
 
     fn floor(&self, windows: &Windows) -> u64 {
-        if self.fits(windows.batches(), windows.periods()) { 0 } else { MAX_CHARGE }
+        if self.fits(windows.batches(), windows.periods()) {
+            0
+        } else {
+            MAX_CHARGE
+        }
     }
 
     fn narrow(&self, windows: &mut Windows, limit: u64) -> Result<(), Refusal> {
@@ -58,7 +70,10 @@ pub impl Rule for Slots as SlotsRule {
         if limit > MAX_CHARGE {
             return Err(Refusal::CapTooHigh);
         }
-        let never_due = Flat { slots: *self, dues: [64; 32] };
+        let never_due = Flat {
+            slots: *self,
+            dues: [64; 32],
+        };
         never_due.cut(windows, MAX_CHARGE)
     }
 }

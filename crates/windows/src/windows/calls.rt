@@ -38,7 +38,14 @@ impl Windows {
     pub fn new() -> Windows
         ensures { λ r. ⌜ set-of r ≡ blank ⌝ }
     {
-        Windows { count: 0, last: 1, each: [Window { earliest: 1, latest: 1 }; 32] }
+        Windows {
+            count: 0,
+            last: 1,
+            each: [Window {
+                earliest: 1,
+                latest: 1,
+            }; 32],
+        }
     }
 
     // How many batches there are.
@@ -67,7 +74,13 @@ impl Windows {
     }
 
     // Loads the windows of some batches from the lists of their earliest and their latest periods.
-    pub fn fill(&mut self, batches: usize, periods: usize, earliest: &[u8], latest: &[u8]) -> Result<(), Refusal>
+    pub fn fill(
+        &mut self,
+        batches: usize,
+        periods: usize,
+        earliest: &[u8],
+        latest: &[u8],
+    ) -> Result<(), Refusal>
         ensures { λ r. ⌜ Filled batches periods (now (earliest .entry)) (now (latest .entry)) (now (self .entry)) (now (self .exit)) r ⌝ }
     {
         if breaks_size(batches, periods) {
@@ -79,11 +92,21 @@ impl Windows {
         if some_bad_window(periods as u8, earliest, latest) {
             return Err(Refusal::BadWindow);
         }
-        let mut each = [Window { earliest: 1, latest: 1 }; 32];
+        let mut each = [Window {
+            earliest: 1,
+            latest: 1,
+        }; 32];
         for k in 0..batches {
-            each[k] = Window { earliest: earliest[k], latest: latest[k] };
+            each[k] = Window {
+                earliest: earliest[k],
+                latest: latest[k],
+            };
         }
-        *self = Windows { count: batches as u8, last: periods as u8, each };
+        *self = Windows {
+            count: batches as u8,
+            last: periods as u8,
+            each,
+        };
         Ok(())
     }
 }

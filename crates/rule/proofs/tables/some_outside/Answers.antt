@@ -15,9 +15,9 @@ returns-then-entry-least c =
     let a = c .args .least in
     let b = c .args .greatest in
     sym (some-here (λ v. ltb v a || ltb b v) vs 0 k (omega arith) (⊎-elim
-      (λ low. or-left (ltb (getD vs k 0) a) (ltb b (getD vs k 0)) (lt-ltb (getD vs k 0) a low))
-      (λ high. or-right (ltb (getD vs k 0) a) (ltb b (getD vs k 0)) (lt-ltb b (getD vs k 0) (high .1)))
-      (c .then-entry-least .either)))
+    (λ low. or-left (ltb (getD vs k 0) a) (ltb b (getD vs k 0)) (lt-ltb (getD vs k 0) a low))
+    (λ high. or-right (ltb (getD vs k 0) a) (ltb b (getD vs k 0)) (lt-ltb b (getD vs k 0) (high .1)))
+    (c .then-entry-least .either)))
 
 pub returns : need.returns
 returns c =

@@ -13,8 +13,7 @@ returns c =
     let T = c .args .periods in
     let cs = c .args .capacities .now in
     let size = size-known n T (sym (c .if-breaks-size .ensures tt)) in
-    let long = c .if-capacities-periods .left in
-    (
+    let long = c .if-capacities-periods .left in (
       slots-accepted n T cs (sym (c .if-breaks-size .ensures tt)) long (sym (c .if-some-outside .ensures tt)),
       ap (slots n T) (ap (take T) (c .padded .ensures) ∙ padded-front 64 T cs long (size .2)),
     )

@@ -29,6 +29,6 @@ returns c =
     let fits = fit-known true n (s .last) (length (set-of w .each)) (w .last) (c .batches .result) (c .periods .result) (c .if-not-fits .ensures tt) (c .batches .ensures) (c .periods .ensures) in
     let long : length ds ≡ n = length-take-le {A = ℕ} n (replicate 32 64) (omega (arith, s .few)) in
     let same = slots-cut n (s .last) (take (s .last) (s .capacities)) ds (set-of w) (c .args .limit) (held-proper w) (long ∙ sym (same-size-parts n (s .last) (length (set-of w .each)) (w .last) fits .0))
-      (λ k h. getD-take {A = ℕ} n (replicate 32 64) k 0 (omega (arith, long)) ∙ getD-replicate {A = ℕ} 32 k 64 0 (omega (arith, long, s .few))) in
+    (λ k h. getD-take {A = ℕ} n (replicate 32 64) k 0 (omega (arith, long)) ∙ getD-replicate {A = ℕ} 32 k 64 0 (omega (arith, long, s .few))) in
     narrowed-cut (slots-of s) (c .args .limit) w fits (c .if-limit-gt-MAX-CHARGE .left) (c .cut .last .windows) (c .cut .result)
     (subst (λ (o : Option WindowSet). Cut-to o w (c .cut .last .windows) (c .cut .result)) same (c .cut .ensures))
