@@ -4,6 +4,8 @@ mod window;
 mod windows;
 
 pub use refusal::Refusal;
+pub use refusal::RefusalDebug;
+pub use refusal::RefusalPartialEq;
 pub use window::Window;
 pub use windows::Windows;
 pub use windows::breaks_size;

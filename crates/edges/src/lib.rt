@@ -1,0 +1,5 @@
+// Examples and edges of the windows and the rules, each a test.
+#[cfg(test)]
+mod flat_tests;
+#[cfg(test)]
+mod window_tests;
