@@ -1,5 +1,4 @@
 // The order of batches that have to go late.
-ghost use mathlib.Core.Path.{_≡_};
 ghost use Rattle.line.specs.Orders.{ahead-by};
 use crate::batch::Batch;
 use crate::waits::Waits;

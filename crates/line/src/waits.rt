@@ -9,12 +9,16 @@ use crate::batch::Batch;
 pub trait Waits {
     type Key;
 
+    // what an element is ranked by
     ghost key: { Self → Self·Key };
 
+    // the number of its batch, which settles a tie
     ghost number: { Self → ℕ };
 
+    // whether the first element is ahead of the second
     ghost leads: { Self → Self → Bool };
 
+    // the element of a batch and its number
     ghost made: { Batch → ℕ → Self };
 
     // of two elements at most one is ahead
@@ -36,7 +40,7 @@ pub trait Waits {
     fn ahead(&self, other: &Self) -> bool
         ensures { λ r. ⌜ r ≡ leads (now (self .entry)) (now (other .entry)) ⌝ };
 
-    // The element of a batch, which has the number `which`.
+    // The element of the batch with the number `which`.
     fn of(batch: Batch, which: u8) -> Self
         ensures { λ r. ⌜ r ≡ made batch which ⌝ };
 

@@ -58,3 +58,7 @@ module _ {X : Type 0} (made : ℕ → X) (waits : ℕ → Type 0) where
             let e′ = (getD-take m xs i d inside ∙ r .3 d) in
             subst (λ y. leads (made k) y ≡ false) e′ (subst (λ x. leads x (getD (take m xs) i d) ≡ false) e (front .unled (q .0) d (omega (arith, q .1)))),
       )
+
+-- the number of an element that is read from the line
+pub line-number : {X : Type 0} (number : X → ℕ) (xs : List X) (i j n : ℕ) (x y : X) → n ≡ number x → x ≡ getD xs i x → ((d : X) → getD xs i d ≡ y) → number y ≡ j → n ≡ j
+line-number number xs i j n x y e read is own = e ∙ ap number (read ∙ is x) ∙ own

@@ -12,17 +12,14 @@ use Rattle.std.specs.declared.option.Option.the-variants.{Some, None}
 use Rattle.std.proofs.shelf.Tests.{cases-eq}
 use Rattle.line.specs.declared.batch.Batch.{Batch}
 use Rattle.sweep.specs.declared.batches.Batches.{Batches}
-use Rattle.sweep.specs.Charges.{no-batch, at, earliest-at, latest-at, Fits, Has, Impossible, cost, charge, Cheapest, Forced, pinned}
+use Rattle.sweep.specs.Charges.{no-batch, at, earliest-at, latest-at, Fits, Has, Impossible, cost, charge, Cheapest, Forced, narrowed, pinned}
 use Rattle.sweep.specs.Held.{listed}
 use Rattle.sweep.proofs.Sounds.{at-listed}
 
-abbrev held : Batch → ℕ → Batch
-held b v = record { earliest = v; latest = v; due = b .due; rate = b .rate }
-
 -- the table of a copy lists the batches with one window narrowed
-pub pinned-listed : (b : Batches) (i v : ℕ) → i < b .count → take (b .count) (set (b .each) i (held (at (b .each) i) v)) ≡ pinned (listed b) i v
+pub pinned-listed : (b : Batches) (i v : ℕ) → i < b .count → take (b .count) (set (b .each) i (narrowed (at (b .each) i) v)) ≡ pinned (listed b) i v
 pinned-listed b i v h =
-    take-set-lt (b .count) (b .each) i (held (at (b .each) i) v) h ∙ ap (λ a. set (listed b) i (held a v)) (sym (at-listed b i h))
+    take-set-lt (b .count) (b .each) i (narrowed (at (b .each) i) v) h ∙ ap (λ a. set (listed b) i (narrowed a v)) (sym (at-listed b i h))
 
 -- what is charged does not depend on the windows
 cost-set : (f : Batch → ℕ → ℕ) (bs : List Batch) (i : ℕ) (b : Batch) → ((v : ℕ) → f b v ≡ f (at bs i) v) → (x : List ℕ) → cost f (set bs i b) x ≡ cost f bs x
@@ -33,17 +30,17 @@ cost-set f (a ∷ bs) (suc i) b e [] = refl
 cost-set f (a ∷ bs) (suc i) b e (v ∷ x) = omega (arith, cost-set f bs i b e x)
 
 module _ (bs : List Batch) (cs : List ℕ) (last i v : ℕ) (inside : i < length bs) (low : earliest-at bs i ≤ v) (high : v ≤ latest-at bs i) where
-  here : at (pinned bs i v) i ≡ held (at bs i) v
-  here = getD-set-same bs i (held (at bs i) v) no-batch inside
+  here : at (pinned bs i v) i ≡ narrowed (at bs i) v
+  here = getD-set-same bs i (narrowed (at bs i) v) no-batch inside
 
   other : (k : ℕ) → (k ≡ i → ⊥) → at (pinned bs i v) k ≡ at bs k
-  other k ne = getD-set-other bs i k (held (at bs i) v) no-batch ne
+  other k ne = getD-set-other bs i k (narrowed (at bs i) v) no-batch ne
 
   size : length (pinned bs i v) ≡ length bs
-  size = length-set bs i (held (at bs i) v)
+  size = length-set bs i (narrowed (at bs i) v)
 
   same-charge : (x : List ℕ) → charge (λ _. 1) (pinned bs i v) x ≡ charge (λ _. 1) bs x
-  same-charge x = cost-set (λ b v. 1 * (b .due - v)) bs i (held (at bs i) v) (λ v. refl) x
+  same-charge x = cost-set (λ b v. 1 * (b .due - v)) bs i (narrowed (at bs i) v) (λ v. refl) x
 
   -- the schedules of the narrowed batches are those of the batches that have batch i in period v
   fits-pinned : (x : List ℕ) → Fits bs cs last x → Has i v x → Fits (pinned bs i v) cs last x

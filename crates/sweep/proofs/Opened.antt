@@ -1,9 +1,9 @@
 -- Batches with their windows opened to period 1. Assumes nothing.
 use mathlib.Core.Path.{_≡_, sym, ap, subst, _∙_}
-use mathlib.Core.List.{List, [], _∷_, _++_, map}
+use mathlib.Core.List.{List, [], _∷_, _++_}
 use Prim.Native.Nat.{ℕ, _+_, _≤_, _<_}
 use native.Mathlib.Omega.{arith}
-use lib.ListN.{length, getD, set, take}
+use lib.ListN.{length, set, take}
 use Rattle.std.proofs.shelf.Lists.{getD-take, getD-map, length-map, take-more-set, map-more}
 use Rattle.line.specs.declared.batch.Batch.{Batch}
 use Rattle.sweep.specs.declared.batches.Batches.{Batches}

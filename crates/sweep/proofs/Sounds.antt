@@ -17,7 +17,7 @@ length-listed b = length-take-le (b .count) (b .each) (omega (arith, b .long, b 
 pub at-listed : (b : Batches) (k : ℕ) → k < b .count → at (listed b) k ≡ at (b .each) k
 at-listed b k h = getD-take (b .count) (b .each) k no-batch h
 
--- the batches that it lists can be placed
+-- the batches that it lists are sound
 pub listed-sound : (b : Batches) → Sound (length (listed b)) (last-of b) (listed b)
 listed-sound b =
     let size = length-listed b in

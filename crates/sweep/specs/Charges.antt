@@ -49,32 +49,36 @@ cost f (b ∷ bs) (v ∷ x) = f b v + cost f bs x
 abbrev pub charge : (Batch → ℕ) → List Batch → List ℕ → ℕ
 charge w bs x = cost (λ b v. w b * (b .due - v)) bs x
 
--- The table p begins with a schedule that fits, and no schedule that fits is charged less.
+-- The table p of 32 periods begins with a schedule that fits, and no schedule that fits is charged less.
 pub record Cheapest (w : Batch → ℕ) (bs : List Batch) (cs : List ℕ) (last : ℕ) (p : List ℕ) : Type 0 where
   pub long : length p ≡ 32
   pub fits : Fits bs cs last (take (length bs) p)
   pub least : (x : List ℕ) → Fits bs cs last x → charge w bs (take (length bs) p) ≤ charge w bs x
 
--- The table p begins with a schedule that fits and has batch i in period v, and no such schedule is charged less.
+-- The table p of 32 periods begins with a schedule that fits and has batch i in period v, and no such schedule is charged
+-- less.
 pub record Forced (w : Batch → ℕ) (bs : List Batch) (cs : List ℕ) (last i v : ℕ) (p : List ℕ) : Type 0 where
   pub long : length p ≡ 32
   pub fits : Fits bs cs last (take (length bs) p)
   pub has : Has i v (take (length bs) p)
   pub least : (x : List ℕ) → Fits bs cs last x → Has i v x → charge w bs (take (length bs) p) ≤ charge w bs x
 
--- The batches with every window opened to the front: from period 1 on.
+-- A batch with its window opened to period 1, and batches with every window opened.
 abbrev pub opened : Batch → Batch
 opened b = record { earliest = 1; latest = b .latest; due = b .due; rate = b .rate }
 
 abbrev pub relaxed : List Batch → List Batch
 relaxed bs = map opened bs
 
--- The batches with the window of batch i narrowed to period v.
-abbrev pub pinned : List Batch → ℕ → ℕ → List Batch
-pinned bs i v = set bs i (record { earliest = v; latest = v; due = at bs i .due; rate = at bs i .rate })
+-- A batch with its window narrowed to period v, and batches with the window of batch i narrowed.
+abbrev pub narrowed : Batch → ℕ → Batch
+narrowed b v = record { earliest = v; latest = v; due = b .due; rate = b .rate }
 
--- The first n batches of a list can be placed in the periods 1 to last: there are at most 32 batches and 64 periods, no
--- window is empty, all lie in the periods, and each ends by its batch's due period.
+abbrev pub pinned : List Batch → ℕ → ℕ → List Batch
+pinned bs i v = set bs i (narrowed (at bs i) v)
+
+-- The first n batches of a list are sound over the periods 1 to last: there are at most 32 batches and 64 periods, no window
+-- is empty, all lie in the periods, and each ends by its batch's due period.
 pub record Sound (n last : ℕ) (bs : List Batch) : Type 0 where
   pub few : n ≤ 32
   pub most : last ≤ 64

@@ -14,7 +14,7 @@ listed b = take (b .count) (b .each)
 abbrev pub last-of : Batches → ℕ
 last-of b = b .last
 
--- It was made from the first n entries of a table of batches.
+-- It holds the table bs, of which the first n batches count, and the periods 1 to last.
 pub record Holds (n last : ℕ) (bs : List Batch) (b : Batches) : Type 0 where
   pub same-count : b .count ≡ n
   pub same-last : b .last ≡ last

@@ -29,7 +29,7 @@ pub record Next {E : Type 0} (leads : E → E → Bool) (made : Batch → ℕ �
   pub waits : Waiting bs p t b
   pub unled : (k : ℕ) → k < length bs → Waiting bs p t k → leads (element made bs k) (element made bs b) ≡ false
 
--- A batch has no later earliest period than one it is not ahead of.
+-- The earliest period of a batch is not later than that of any batch that it is not ahead of.
 abbrev pub Latest-first : {E : Type 0} → (E → E → Bool) → (Batch → ℕ → E) → List Batch → Type 0
 Latest-first leads made bs =
     (b k : ℕ) →
@@ -43,7 +43,8 @@ pub record Suits {E : Type 0} (leads : E → E → Bool) (made : Batch → ℕ �
   pub rises : (b u t : ℕ) → b < length bs → u ≤ t → f b u ≤ f b t
   pub swaps : (b k u t : ℕ) → b < length bs → k < length bs → leads (element made bs k) (element made bs b) ≡ false → u < t → f b u + f k t ≤ f b t + f k u
 
--- The table p begins with a schedule that fits, and none that fits is worth more, by any worth that suits the order.
+-- The table p of 32 periods begins with a schedule that fits, and none that fits is worth more, by any worth that suits the
+-- order.
 pub record Best {E : Type 0} (leads : E → E → Bool) (made : Batch → ℕ → E) (bs : List Batch) (cs : List ℕ) (last : ℕ) (p : List ℕ) : Type 0 where
   pub long : length p ≡ 32
   pub fits : Fits bs cs last (take (length bs) p)

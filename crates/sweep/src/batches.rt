@@ -1,4 +1,4 @@
-// Batches that can be placed.
+// A set of batches.
 ghost use mathlib.Core.Path.{_≡_};
 ghost use Prim.Native.Nat.{ℕ, _≤_, _<_};
 ghost use lib.ListN.{length};

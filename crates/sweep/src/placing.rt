@@ -51,7 +51,7 @@ fn stranded(batches: &[Batch], placed: &[u8; 32], t: u8) -> bool
     false
 }
 
-// Fills each period from the last to the first with the batches that are ahead, and gives up at a batch that is too late.
+// Fills each period, from the last to the first, with the batches that go next; nothing once a batch can't be placed.
 pub(crate) fn sweep<E: Waits + Copy>(
     batches: &[Batch],
     capacities: &[u8; 64],

@@ -64,5 +64,25 @@ pairs-taken n ws es ls long a b h =
 pub fill-accepted : (n T : ℕ) (es ls : List ℕ) → out-of-size n T ≡ false → length es ≡ n → length ls ≡ n → some-bad T es ls ≡ false → struck (fill-checks n T es ls) ≡ 0
 fill-accepted n T es ls s a b g = grind (arith, tells)
 
+-- What an accepted fill was asked.
+pub record Accepted (n T : ℕ) (es ls : List ℕ) : Type 0 where
+  pub few : n ≤ 32
+  pub some : 1 ≤ T
+  pub most : T ≤ 64
+  pub starts : length es ≡ n
+  pub ends : length ls ≡ n
+  pub good : some-bad T es ls ≡ false
+
+pub accepted : (n T : ℕ) (es ls : List ℕ) → 0 ≡ struck (fill-checks n T es ls) → Accepted n T es ls
+accepted n T es ls e =
+    record {
+      few = grind (arith, tells);
+      some = grind (arith, tells);
+      most = grind (arith, tells);
+      starts = grind (arith, tells);
+      ends = grind (arith, tells);
+      good = grind (arith, tells);
+    }
+
 pub size-known : (n T : ℕ) → out-of-size n T ≡ false → (n ≤ 32) × (1 ≤ T) × (T ≤ 64)
 size-known n T h = (grind (arith, tells), grind (arith, tells), grind (arith, tells))

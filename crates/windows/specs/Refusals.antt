@@ -2,8 +2,8 @@
 use mathlib.Core.Bool.{Bool, cond}
 use mathlib.Core.List.{List, [], _∷_}
 use Prim.Native.Nat.{ℕ}
-use Rattle.std.specs.declared.result.Result.{Result}
-use Rattle.std.specs.declared.result.Result.the-variants.{Ok, Err}
+use Rattle.std.specs.declared.option.Option.{Option}
+use Rattle.std.specs.declared.option.Option.the-variants.{Some, None}
 use Rattle.windows.specs.declared.refusal.Refusal.{Refusal}
 use Rattle.windows.specs.declared.refusal.Refusal.the-variants.{SheetLength, Version, Limit, ListLength, Entry, BadWindow, Unfit, CapTooHigh, NoSchedule, Idle, Done, CapNotLower, NoPlan, ShortMemory}
 
@@ -23,6 +23,11 @@ number Done = 11
 number CapNotLower = 12
 number NoPlan = 13
 number ShortMemory = 14
+
+-- The number of a refusal, or 0 where there is none.
+abbrev pub refused-by : Option Refusal → ℕ
+refused-by None = 0
+refused-by (Some e) = number e
 
 -- The checks of a call, each a refusal's number and whether it strikes: the first that strikes gives its number, and 0 says
 -- that none does.

@@ -2,6 +2,7 @@
 ghost use mathlib.Core.Path.{_≡_};
 ghost use mathlib.Core.List.{[], _∷_};
 ghost use Rattle.std.specs.Options.{Cases as BySome};
+ghost use Rattle.windows.specs.Refusals.{refused-by, struck};
 ghost use Rattle.windows.specs.Filling.{set-of};
 ghost use Rattle.rule.specs.Narrowing.{Loaded, Cut-to};
 ghost use Rattle.flat.specs.Rules.{flat};
@@ -19,6 +20,22 @@ use sweep::Batches;
 use windows::Refusal;
 use windows::Windows;
 use windows::breaks_size;
+
+// The first check of a fill that strikes.
+fn fill_refusal(batches: usize, periods: usize, capacities: &[u8], dues: &[u8]) -> Option<Refusal>
+    ensures { λ r. ⌜ refused-by r ≡ struck (flat-checks batches periods (now (capacities .entry)) (now (dues .entry))) ⌝ }
+{
+    if breaks_size(batches, periods) {
+        return Some(Refusal::Limit);
+    }
+    if capacities.len() != periods || dues.len() != batches {
+        return Some(Refusal::ListLength);
+    }
+    if some_outside(capacities, 0, 32) || some_outside(dues, 1, periods as u8) {
+        return Some(Refusal::Entry);
+    }
+    None
+}
 
 impl Flat {
     // No batches, and one period of capacity 0.
@@ -46,14 +63,8 @@ impl Flat {
     ) -> Result<(), Refusal>
         ensures { λ r. ⌜ Loaded flat-of (flat-checks batches periods (now (capacities .entry)) (now (dues .entry))) (flat batches periods (now (capacities .entry)) (now (dues .entry))) (now (self .entry)) (now (self .exit)) r ⌝ }
     {
-        if breaks_size(batches, periods) {
-            return Err(Refusal::Limit);
-        }
-        if capacities.len() != periods || dues.len() != batches {
-            return Err(Refusal::ListLength);
-        }
-        if some_outside(capacities, 0, 32) || some_outside(dues, 1, periods as u8) {
-            return Err(Refusal::Entry);
+        if let Some(refusal) = fill_refusal(batches, periods, capacities, dues) {
+            return Err(refusal);
         }
         let slots = Slots {
             count: batches as u8,

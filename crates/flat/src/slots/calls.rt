@@ -1,6 +1,7 @@
 // The calls on Slots.
 ghost use mathlib.Core.Path.{_≡_};
 ghost use mathlib.Core.List.{[], _∷_};
+ghost use Rattle.windows.specs.Refusals.{refused-by, struck};
 ghost use Rattle.rule.specs.Narrowing.{Loaded};
 ghost use Rattle.flat.specs.Rules.{slots};
 ghost use Rattle.flat.specs.Loading.{slots-of, slots-checks};
@@ -13,6 +14,22 @@ use rule::some_outside;
 use windows::Refusal;
 use windows::Windows;
 use windows::breaks_size;
+
+// The first check of a fill that strikes.
+fn fill_refusal(batches: usize, periods: usize, capacities: &[u8]) -> Option<Refusal>
+    ensures { λ r. ⌜ refused-by r ≡ struck (slots-checks batches periods (now (capacities .entry))) ⌝ }
+{
+    if breaks_size(batches, periods) {
+        return Some(Refusal::Limit);
+    }
+    if capacities.len() != periods {
+        return Some(Refusal::ListLength);
+    }
+    if some_outside(capacities, 0, 32) {
+        return Some(Refusal::Entry);
+    }
+    None
+}
 
 impl Slots {
     // No batches, and one period of capacity 0.
@@ -30,14 +47,8 @@ impl Slots {
     pub fn fill(&mut self, batches: usize, periods: usize, capacities: &[u8]) -> Result<(), Refusal>
         ensures { λ r. ⌜ Loaded slots-of (slots-checks batches periods (now (capacities .entry))) (slots batches periods (now (capacities .entry))) (now (self .entry)) (now (self .exit)) r ⌝ }
     {
-        if breaks_size(batches, periods) {
-            return Err(Refusal::Limit);
-        }
-        if capacities.len() != periods {
-            return Err(Refusal::ListLength);
-        }
-        if some_outside(capacities, 0, 32) {
-            return Err(Refusal::Entry);
+        if let Some(refusal) = fill_refusal(batches, periods, capacities) {
+            return Err(refusal);
         }
         *self = Slots {
             count: batches as u8,

@@ -15,7 +15,8 @@ use line::EarliestWaits;
 use line::RateWaits;
 
 impl Batches {
-    // The first `count` batches of a table, over the periods 1 to `periods`; nothing if they can't be placed at all.
+    // The first `count` batches of a table over the periods 1 to `periods`; nothing if there are too many of either, or a window
+    // is empty, leaves the periods or ends after its batch is due.
     pub fn new(count: usize, periods: u8, each: [Batch; 32]) -> Option<Batches>
         ensures { λ r. ⌜ BySome r (Sound count periods each → ⊥) (λ b. Holds count periods each b) ⌝ }
     {

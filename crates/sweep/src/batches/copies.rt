@@ -1,7 +1,6 @@
 // Copies of batches with other windows.
 ghost use mathlib.Core.Path.{_≡_};
 ghost use Prim.Native.Nat.{_≤_, _<_};
-ghost use lib.ListN.{set};
 ghost use Rattle.sweep.specs.Charges.{earliest-at, latest-at, pinned as pinned-at, relaxed as relaxed-of};
 ghost use Rattle.sweep.specs.Held.{listed, last-of};
 use crate::batches::Batches;

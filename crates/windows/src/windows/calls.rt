@@ -1,7 +1,8 @@
 // The calls on a set of windows.
 ghost use mathlib.Core.Path.{_≡_};
 ghost use lib.ListN.{length};
-ghost use Rattle.windows.specs.Filling.{set-of, blank, window-asked, out-of-size, bad, some-bad, Filled};
+ghost use Rattle.windows.specs.Filling.{set-of, blank, window-asked, out-of-size, bad, some-bad, fill-checks, Filled};
+ghost use Rattle.windows.specs.Refusals.{refused-by, struck};
 use crate::refusal::Refusal;
 use crate::window::Window;
 use crate::windows::Windows;
@@ -31,6 +32,22 @@ fn some_bad_window(periods: u8, earliest: &[u8], latest: &[u8]) -> bool
         }
     }
     false
+}
+
+// The first check of a fill that strikes.
+fn fill_refusal(batches: usize, periods: usize, earliest: &[u8], latest: &[u8]) -> Option<Refusal>
+    ensures { λ r. ⌜ refused-by r ≡ struck (fill-checks batches periods (now (earliest .entry)) (now (latest .entry))) ⌝ }
+{
+    if breaks_size(batches, periods) {
+        return Some(Refusal::Limit);
+    }
+    if earliest.len() != batches || latest.len() != batches {
+        return Some(Refusal::ListLength);
+    }
+    if some_bad_window(periods as u8, earliest, latest) {
+        return Some(Refusal::BadWindow);
+    }
+    None
 }
 
 impl Windows {
@@ -83,14 +100,8 @@ impl Windows {
     ) -> Result<(), Refusal>
         ensures { λ r. ⌜ Filled batches periods (now (earliest .entry)) (now (latest .entry)) (now (self .entry)) (now (self .exit)) r ⌝ }
     {
-        if breaks_size(batches, periods) {
-            return Err(Refusal::Limit);
-        }
-        if earliest.len() != batches || latest.len() != batches {
-            return Err(Refusal::ListLength);
-        }
-        if some_bad_window(periods as u8, earliest, latest) {
-            return Err(Refusal::BadWindow);
+        if let Some(refusal) = fill_refusal(batches, periods, earliest, latest) {
+            return Err(refusal);
         }
         let mut each = [Window {
             earliest: 1,

@@ -5,7 +5,6 @@ use Rattle.std.specs.Slices.{Ranks}
 use Rattle.std.specs.shelf.Bests.{FirstBest}
 use Rattle.std.proofs.shelf.Bests.{first-best-keeps, first-best-takes}
 use Rattle.std.proofs.shelf.Tests.{eqb-false}
-use Rattle.line.specs.Fronts.{Front}
 use Rattle.line.proofs.Ranking.{ranks, front-of-first-best}
 use Rattle.line.proofs.head.front.Given as given
 use Rattle.line.proofs.head.front.Needs as need

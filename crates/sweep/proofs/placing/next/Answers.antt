@@ -9,7 +9,7 @@ use lib.ListN.{length, set, take, length-set}
 use Rattle.line.specs.Fronts.{Front}
 use Rattle.sweep.specs.Charges.{at}
 use Rattle.sweep.specs.Turns.{Waiting, Next, element}
-use Rattle.sweep.proofs.Lines.{Line, line-skips, line-joins, line-front}
+use Rattle.sweep.proofs.Lines.{Line, line-skips, line-joins, line-front, line-number}
 use Rattle.sweep.proofs.placing.next.Needs as need
 use Rattle.sweep.proofs.placing.next.Needs.{then-placed-k-eq0·then-t-batch, else-placed-k-eq0}
 
@@ -51,8 +51,9 @@ returns-in-Some g c =
     let cut : m - 0 ≡ m = omega arith in
     let front = subst (λ a. Front leads (take a xs) (c .in-Some .i)) cut (c .in-Some .ensures tt) in
     let r = line-front made waits leads (c .loop-k .k) m (c .in-Some .i) xs (c .loop-k .inv .1) room front in
-    let found : c .index-all-i .result ≡ made (r .0) = c .index-all-i .is ∙ r .3 (c .index-all-i .result) in
-    let is : c .number .result ≡ r .0 = c .number .ensures ∙ ap (g .E·Waits .number) found ∙ g .E·Waits·met .numbered (at bs (r .0)) (r .0) in
+    let is =
+    line-number (g .E·Waits .number) xs (c .in-Some .i) (r .0) (c .number .result) (c .index-all-i .result) (made (r .0)) (c .number .ensures) (c .index-all-i .is) (r .3)
+    (g .E·Waits·met .numbered (at bs (r .0)) (r .0)) in
     subst (Next leads (g .E·Waits .made) bs p (c .args .t)) (sym is) (record {
       inside = omega (arith, r .1);
       waits = r .2;

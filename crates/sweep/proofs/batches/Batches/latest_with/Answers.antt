@@ -1,10 +1,8 @@
-use mathlib.Core.Path.{_≡_, ap, subst₂, _∙_}
+use mathlib.Core.Path.{ap, subst₂}
 use mathlib.Core.Logic.{⊎-elim}
-use Prim.Native.Nat.{_<_}
 use native.Mathlib.Omega.{arith}
-use lib.ListN.{length}
 use Rattle.std.specs.Options.{Cases as BySome}
-use Rattle.sweep.specs.Charges.{earliest-at, latest-at, Impossible, Cheapest}
+use Rattle.sweep.specs.Charges.{Impossible, Cheapest}
 use Rattle.sweep.specs.Held.{listed}
 use Rattle.sweep.proofs.Sounds.{length-listed, at-listed}
 use Rattle.sweep.proofs.Narrowed.{forced-answer}

@@ -1,6 +1,6 @@
 use mathlib.Core.Path.{_≡_, sym, ap, _∙_}
 use native.Mathlib.Omega.{arith}
-use lib.ListN.{length, take}
+use lib.ListN.{take}
 use Rattle.sweep.specs.Charges.{charge}
 use Rattle.sweep.specs.Held.{listed}
 use Rattle.sweep.proofs.Sounds.{length-listed}
