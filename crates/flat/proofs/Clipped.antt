@@ -1,20 +1,20 @@
 -- What Flat allows in some windows is what fits their clipped batches.
 use mathlib.Core.Path.{_≡_, refl, sym, ap, subst, _∙_}
-use mathlib.Core.Bool.{Bool, true, _&&_}
+use mathlib.Core.Bool.{true}
 use mathlib.Core.List.{List, [], _∷_}
-use Prim.Native.Nat.{ℕ, zero, suc, _+_, _-_, _*_, _≤_, _<_, min}
+use Prim.Native.Nat.{ℕ, zero, suc, _+_, _-_, _≤_, _<_, min}
 use native.Mathlib.Omega.{arith}
 use lib.Dec.{leb}
 use lib.ListN.{length, getD, take}
 use Rattle.std.proofs.shelf.Lists.{getD-take, length-take-le}
 use Rattle.std.proofs.shelf.Tests.{le-leb, leb-true, and-parts, and-from}
 use Rattle.windows.specs.declared.window.Window.{Window}
-use Rattle.windows.specs.WindowSets.{Lies, earliest-of, latest-of}
+use Rattle.windows.specs.WindowSets.{earliest-of, latest-of}
 use Rattle.windows.specs.Schedules.{count}
 use Rattle.windows.specs.Hulls.{Passes}
 use Rattle.line.specs.declared.batch.Batch.{Batch}
-use Rattle.sweep.specs.Charges.{at, earliest-at, latest-at, Fits, charge}
-use Rattle.flat.specs.Tests.{same-size, within, on-time, waited}
+use Rattle.sweep.specs.Charges.{at, Fits, charge}
+use Rattle.flat.specs.Tests.{same-size, within, waited}
 use Rattle.flat.specs.Rules.{flat-allows, flat-within}
 use Rattle.flat.specs.Ends.{clipped}
 use Rattle.flat.proofs.Tested.{within-at, within-from, on-time-at, on-time-from, allowed, allows, same-size-parts}

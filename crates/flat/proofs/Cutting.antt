@@ -1,5 +1,5 @@
 -- Flat's floor and cut, from what is found for the clipped batches.
-use mathlib.Core.Path.{_≡_, refl, sym, ap, subst, _∙_}
+use mathlib.Core.Path.{_≡_, sym, ap, subst, _∙_}
 use mathlib.Core.Bool.{true}
 use mathlib.Core.List.{List}
 use Prim.Native.Nat.{ℕ, _≤_, _<_, min}
@@ -16,13 +16,12 @@ use Rattle.std.proofs.shelf.Tests.{and-parts}
 use Rattle.windows.specs.declared.refusal.Refusal.{Refusal}
 use Rattle.windows.specs.declared.window.Window.{Window}
 use Rattle.windows.specs.declared.windows.Windows.{Windows}
-use Rattle.windows.specs.Refusals.{number}
 use Rattle.windows.specs.WindowSets.{WindowSet, Proper, earliest-of, latest-of}
 use Rattle.windows.specs.Hulls.{Hull, Passes}
 use Rattle.windows.specs.Filling.{set-of, paired, Filled}
 use Rattle.windows.proofs.Enumerated.{enumerated-is, enumerated-empty, enumerated-inside}
 use Rattle.windows.proofs.Fills.{paired-at, length-paired}
-use Rattle.windows.proofs.Held.{held-length, held-proper, fills, numbered}
+use Rattle.windows.proofs.Held.{held-proper, fills, numbered}
 use Rattle.rule.specs.Meaning.{max-charge}
 use Rattle.rule.specs.Narrowing.{Cut-to}
 use Rattle.line.specs.declared.batch.Batch.{Batch}

@@ -1,12 +1,12 @@
 -- What the tests say of each batch and each period.
 use mathlib.Core.Path.{_≡_, refl, sym, ap, _∙_}
-use mathlib.Core.Bool.{Bool, true, _&&_}
+use mathlib.Core.Bool.{Bool, true}
 use mathlib.Core.List.{List, [], _∷_}
 use Prim.Native.Nat.{ℕ, zero, suc, _+_, _-_, _*_, _≤_, _<_}
 use native.Mathlib.Omega.{arith}
 use lib.Dec.{leb, eqb}
 use lib.ListN.{length, getD}
-use Rattle.std.proofs.shelf.Tests.{le-leb, leb-true, eq-eqb, eqb-true, and-parts, and-from, false≢true}
+use Rattle.std.proofs.shelf.Tests.{le-leb, leb-true, eqb-true, and-parts, and-from}
 use Rattle.windows.specs.Schedules.{count}
 use Rattle.flat.specs.Tests.{same-size, within, on-time, waited}
 use Rattle.flat.specs.Rules.{slots-allows, flat-allows}

@@ -6,7 +6,6 @@ use lib.Dec.{leb}
 use lib.ListN.{length}
 use Rattle.std.specs.declared.option.Option.{Option}
 use Rattle.std.specs.declared.option.Option.the-variants.{Some, None}
-use Rattle.windows.specs.WindowSets.{WindowSet}
 use Rattle.windows.specs.Schedules.{kept, schedules, hull, least}
 use Rattle.rule.specs.Meaning.{Meaning, max-charge}
 use Rattle.flat.specs.Tests.{same-size, within, on-time, waited}

@@ -1,16 +1,14 @@
 -- The three ways out of a narrowing.
 use mathlib.Core.Path.{_≡_, refl, sym, ap, _∙_}
-use mathlib.Core.Bool.{Bool, true, false, not, cond}
+use mathlib.Core.Bool.{true, false, cond}
 use Prim.Native.Nat.{ℕ, _≤_, _<_}
-use native.Mathlib.Omega.{arith}
 use lib.Dec.{ltb}
 use Rattle.std.specs.declared.option.Option.{Option}
-use Rattle.std.specs.declared.option.Option.the-variants.{Some, None}
 use Rattle.std.specs.declared.result.Result.{Result}
 use Rattle.std.specs.declared.result.Result.the-variants.{Ok, Err}
 use Rattle.std.proofs.shelf.Tests.{cond-true, cond-false, not-from-true, not-from-false, lt-ltb, le-ltb}
 use Rattle.windows.specs.declared.refusal.Refusal.{Refusal}
-use Rattle.windows.specs.declared.refusal.Refusal.the-variants.{Unfit, CapTooHigh, NoSchedule}
+use Rattle.windows.specs.declared.refusal.Refusal.the-variants.{Unfit, CapTooHigh}
 use Rattle.windows.specs.declared.windows.Windows.{Windows}
 use Rattle.windows.specs.Refusals.{number, struck}
 use Rattle.windows.specs.WindowSets.{WindowSet}

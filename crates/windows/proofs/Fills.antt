@@ -1,10 +1,9 @@
 -- Bad windows in two lists of periods, and the windows that the lists give.
 use mathlib.Core.Path.{_≡_, refl, sym, ap, _∙_}
-use mathlib.Core.Bool.{Bool, true, false, not, _||_, _&&_}
+use mathlib.Core.Bool.{true, false}
 use mathlib.Core.List.{List, [], _∷_}
 use Prim.Native.Nat.{ℕ, zero, suc, _≤_, _<_}
 use native.Mathlib.Omega.{arith}
-use lib.Dec.{eqb}
 use lib.ListN.{length, getD, take}
 use Rattle.std.proofs.shelf.Lists.{ext-getD, getD-take, length-take-le}
 use Rattle.std.proofs.shelf.Tests.{or-left, or-right, or-from, or-parts}

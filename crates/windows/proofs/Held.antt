@@ -11,7 +11,7 @@ use Rattle.windows.specs.declared.refusal.Refusal.{Refusal}
 use Rattle.windows.specs.declared.refusal.Refusal.the-variants.{SheetLength, Version, Limit, ListLength, Entry, BadWindow, Unfit, CapTooHigh, NoSchedule, Idle, Done, CapNotLower, NoPlan, ShortMemory}
 use Rattle.windows.specs.declared.windows.Windows.{Windows}
 use Rattle.windows.specs.Refusals.{number, struck}
-use Rattle.windows.specs.WindowSets.{WindowSet, Proper, nowhere}
+use Rattle.windows.specs.WindowSets.{Proper, nowhere}
 use Rattle.windows.specs.Filling.{set-of, paired, fill-checks, out-of-size}
 use Rattle.windows.proofs.Fills.{none-bad, not-good, paired-at, length-paired, fill-accepted}
 

@@ -1,6 +1,6 @@
 -- Sets of windows, and the schedules that lie in them. Batches stand in a list by their order; k counts them from 0.
 use mathlib.Core.Path.{_≡_}
-use mathlib.Core.List.{List, [], _∷_}
+use mathlib.Core.List.{List}
 use Prim.Native.Nat.{ℕ, _≤_, _<_}
 use lib.ListN.{length, getD}
 use Rattle.windows.specs.declared.window.Window.{Window}

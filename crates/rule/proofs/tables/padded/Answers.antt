@@ -1,5 +1,4 @@
 use native.Mathlib.Omega.{arith}
-use lib.ListN.{length}
 use Rattle.rule.proofs.Entries.{zeros, length-zeros, table-is}
 use Rattle.rule.proofs.tables.padded.Needs as need
 

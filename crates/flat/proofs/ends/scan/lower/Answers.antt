@@ -1,6 +1,5 @@
 use mathlib.Core.Path.{refl}
 use native.Mathlib.Omega.{arith}
-use lib.ListN.{getD}
 use Rattle.flat.proofs.Found.{Taken, took-supported, took-wider, took-low}
 use Rattle.flat.proofs.Held.{starts-at}
 use Rattle.flat.proofs.ends.scan.lower.Needs as need

@@ -1,6 +1,5 @@
 use mathlib.Core.Path.{refl}
 use native.Mathlib.Omega.{arith}
-use lib.ListN.{getD}
 use Rattle.flat.proofs.Found.{Taken, took-supported, took-wider, took-high}
 use Rattle.flat.proofs.Held.{ends-at}
 use Rattle.flat.proofs.ends.scan.raise.Needs as need

@@ -1,4 +1,4 @@
-use mathlib.Core.Path.{refl, sym, ap, _∙_}
+use mathlib.Core.Path.{sym, ap, _∙_}
 use lib.ListN.{length, take}
 use Rattle.rule.proofs.Entries.{padded-front, length-padded}
 use Rattle.flat.specs.Rules.{slots}

@@ -1,6 +1,6 @@
 use mathlib.Core.Path.{_≡_, sym, ap, _∙_}
 use mathlib.Core.Bool.{true, _&&_}
-use Prim.Native.Nat.{ℕ, _-_, _<_}
+use Prim.Native.Nat.{_-_}
 use native.Mathlib.Omega.{arith}
 use lib.Dec.{leb}
 use lib.ListN.{length, take}
@@ -8,7 +8,6 @@ use Rattle.std.specs.declared.option.Option.the-variants.{Some, None}
 use Rattle.std.proofs.shelf.Lists.{getD-take, length-take-le}
 use Rattle.std.proofs.shelf.Tests.{cond-true, and-from, le-leb}
 use Rattle.windows.specs.WindowSets.{nowhere, earliest-of, latest-of}
-use Rattle.windows.specs.Filling.{set-of}
 use Rattle.windows.proofs.windows.Windows.window.Needs as need
 
 pub returns : need.returns

@@ -1,5 +1,4 @@
-use mathlib.Core.Path.{_≡_, sym, _∙_}
-use mathlib.Core.Bool.{true}
+use mathlib.Core.Path.{sym}
 use native.Mathlib.Omega.{arith}
 use Rattle.windows.proofs.Fills.{bad-here, none-bad}
 use Rattle.windows.proofs.windows.calls.some_bad_window.Needs as need
