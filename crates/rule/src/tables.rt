@@ -1,15 +1,24 @@
 // Tables of a rule, from the lists of the host.
 ghost use mathlib.Core.Path.{_≡_};
+ghost use mathlib.Core.Bool.{_||_};
 ghost use mathlib.Core.List.{_++_};
+ghost use lib.Dec.{ltb};
 ghost use lib.ListN.{take, replicate};
 ghost use Rattle.rule.specs.Tables.{outside};
+
+// Whether an entry lies outside its limits.
+fn is_outside(entry: u8, least: u8, greatest: u8) -> bool
+    ensures { λ r. ⌜ r ≡ (ltb entry least || ltb greatest entry) ⌝ }
+{
+    entry < least || entry > greatest
+}
 
 // Whether some entry of the list lies outside its limits.
 pub fn some_outside(list: &[u8], least: u8, greatest: u8) -> bool
     ensures { λ r. ⌜ r ≡ outside least greatest (now (list .entry)) ⌝ }
 {
     for &entry in list {
-        if entry < least || entry > greatest {
+        if is_outside(entry, least, greatest) {
             return true;
         }
     }
