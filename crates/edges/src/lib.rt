@@ -2,4 +2,8 @@
 #[cfg(test)]
 mod flat_tests;
 #[cfg(test)]
+mod layer_tests;
+#[cfg(test)]
+mod reload_tests;
+#[cfg(test)]
 mod window_tests;

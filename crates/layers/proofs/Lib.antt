@@ -1,0 +1,4 @@
+pub mod Weighing
+pub mod Slacks
+pub mod Rounding
+pub mod Pairing
