@@ -6,3 +6,4 @@ pub mod Worths
 pub mod Sounds
 pub mod Narrowed
 pub mod Opened
+pub mod Removal

@@ -3,7 +3,7 @@ use mathlib.Core.Path.{_≡_, refl, sym, ap, subst, _∙_}
 use mathlib.Core.Bool.{Bool}
 use mathlib.Core.List.{List, [], _∷_}
 use Prim.Native.Nat.{ℕ, zero, suc, _+_, _-_, _*_, _≤_, _<_}
-use native.Mathlib.Nat.{zero-add, mul-add, mul-le-mul-right}
+use native.Mathlib.Nat.{zero-add, mul-add, mul-le-mul, mul-le-mul-right}
 use native.Mathlib.Omega.{arith}
 use lib.ListN.{length, getD, take}
 use Rattle.std.specs.Options.{Cases as BySome}
@@ -54,6 +54,14 @@ wait-more bs x k h l =
     let e = cost-suc (λ b v. 1 * (b .due - v)) bs x k h l in
     let s = ap (λ a. charge (λ _. 1) (take a bs) (take a x)) next in
     omega (arith, e, s)
+
+-- what the types of a rate and of a number of periods make of a product
+pub charge-small : (r t : ℕ) → r ≤ 4294967295 → t ≤ 255 → r * t ≤ 1095216660225
+charge-small r t h l = mul-le-mul {n₁ = r} {m₁ = t} {n₂ = 4294967295} {m₂ = 255} h l
+
+-- one more batch is charged
+pub charge-more : (w : Batch → ℕ) (bs : List Batch) (x : List ℕ) (k : ℕ) → k < length bs → k < length x → charge w (take (k + 1) bs) (take (k + 1) x) ≡ charge w (take k bs) (take k x) + w (at bs k) * (at bs k .due - getD x k 0)
+charge-more w bs x k h l = let next : k + 1 ≡ suc k = omega arith in ap (λ a. charge w (take a bs) (take a x)) next ∙ cost-suc (λ b v. w b * (b .due - v)) bs x k h l
 
 module _ {E : Type 0} (leads : E → E → Bool) (made : Batch → ℕ → E) (bs : List Batch) (cs : List ℕ) (last : ℕ) (w : Batch → ℕ)
     (sound : Sound (length bs) last bs) (suits : Suits leads made bs (λ k v. w (at bs k) * v)) where

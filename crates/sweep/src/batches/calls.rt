@@ -1,11 +1,11 @@
 // What can be asked of batches.
 ghost use mathlib.Core.Path.{_≡_};
 ghost use mathlib.Core.List.{List};
-ghost use Prim.Native.Nat.{ℕ};
+ghost use Prim.Native.Nat.{ℕ, _<_, _^_};
 ghost use lib.ListN.{length, take};
 ghost use Rattle.std.specs.Options.{Cases as BySome};
 ghost use Rattle.sweep.specs.Charges.{Fits, Impossible, Has, Cheapest, Forced, Sound, charge, relaxed as relaxed-of};
-ghost use Rattle.sweep.specs.Held.{listed, last-of, Holds};
+ghost use Rattle.sweep.specs.Held.{listed, last-of, Holds, batch-asked};
 use crate::batches::Batches;
 use crate::placing::sweep;
 use line::Batch;
@@ -50,6 +50,17 @@ impl Batches {
         self.last
     }
 
+    // A batch, counted from 0.
+    pub fn batch(&self, batch: usize) -> Option<Batch>
+        ensures { λ r. ⌜ r ≡ batch-asked (listed (now (self .entry))) batch ⌝ }
+    {
+        if batch < self.count {
+            Some(self.each[batch])
+        } else {
+            None
+        }
+    }
+
     // The schedule that waits least; nothing if none fits the capacities.
     pub fn latest(&self, capacities: &[u8; 64]) -> Option<[u8; 32]>
         ensures { λ r. ⌜ BySome r (Impossible (listed (now (self .entry))) (now (capacities .entry)) (last-of (now (self .entry)))) (λ p. Cheapest (λ _. 1) (listed (now (self .entry))) (now (capacities .entry)) (last-of (now (self .entry))) p) ⌝ }
@@ -88,6 +99,21 @@ impl Batches {
             let due = self.each[k].due;
             if placed[k] < due {
                 sum += (due - placed[k]) as u64;
+            }
+        }
+        sum
+    }
+
+    // The charge of a schedule by the rates.
+    pub fn charge(&self, placed: &[u8; 32]) -> u64
+        ensures exact { λ r. ⌜ r ≡ charge (λ b. b .rate) (listed (now (self .entry))) (take (length (listed (now (self .entry)))) (now (placed .entry))) ⌝ }
+        ensures small { λ r. ⌜ r < 2 ^ 45 ⌝ }
+    {
+        let mut sum: u64 = 0;
+        for k in 0..self.count {
+            let batch = self.each[k];
+            if placed[k] < batch.due {
+                sum += batch.rate as u64 * (batch.due - placed[k]) as u64;
             }
         }
         sum

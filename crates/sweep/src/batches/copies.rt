@@ -1,6 +1,7 @@
 // Copies of batches with other windows.
 ghost use mathlib.Core.Path.{_≡_};
 ghost use Prim.Native.Nat.{_≤_, _<_};
+ghost use Rattle.std.specs.Holes.{removed};
 ghost use Rattle.sweep.specs.Charges.{earliest-at, latest-at, pinned as pinned-at, relaxed as relaxed-of};
 ghost use Rattle.sweep.specs.Held.{listed, last-of};
 use crate::batches::Batches;
@@ -45,6 +46,24 @@ impl Batches {
         }
         Batches {
             count: self.count,
+            last: self.last,
+            each,
+        }
+    }
+
+    // The batches without one of them, counted from 0; all of them if there is no such batch.
+    pub fn without(&self, batch: usize) -> Batches
+        ensures { λ r. ⌜ listed r ≡ removed (listed (now (self .entry))) batch ⌝ ∗ ⌜ last-of r ≡ last-of (now (self .entry)) ⌝ }
+    {
+        if batch >= self.count {
+            return *self;
+        }
+        let mut each = self.each;
+        for k in batch..self.count - 1 {
+            each[k] = self.each[k + 1];
+        }
+        Batches {
+            count: self.count - 1,
             last: self.last,
             each,
         }
