@@ -37,7 +37,7 @@ use Rattle.flat.proofs.Laws.{flat-lawful, flat-unfit}
 use Rattle.rated.specs.declared.rated.Rated.{Rated}
 use Rattle.rated.specs.Rates.{forced, at-most, affordable, ends-of, measured, over, after-hull}
 use Rattle.rated.specs.Loading.{rated-of}
-use Rattle.rated.specs.Measures.{Prices, Nothing-fits, Affords, Some-none, First, Final}
+use Rattle.rated.specs.Measures.{Prices, Nothing-fits, Affords, Some-unaffordable, First, Final}
 use Rattle.rated.proofs.Replaced.{Ends, replaced-is, replaced-empty, ends-is, ends-empty}
 use Rattle.rated.proofs.Relaxed.{on-time-long, relaxed-lies}
 use Rattle.rated.proofs.Laws.{affordable-in, affordable-out, measured-inside}
@@ -135,7 +135,7 @@ module _ (r : Rated) where
           let due = on-time-at ds (f .0) o k (omega (arith, on-time-long ds (f .0) o, l .same-size)) in
           affords-out r h b c limit k v i (omega (arith, held-proper h .starts k i)) hi (omega (arith, f .2, due)) t
 
-      pub unaffordable : Some-none b (r .capacities) limit (set-of h .each) → rated-of r .cut (set-of w) limit ≡ None
+      pub unaffordable : Some-unaffordable b (r .capacities) limit (set-of h .each) → rated-of r .cut (set-of w) limit ≡ None
       unaffordable nil = cut-is ∙ ap (over (set-of h .periods)) (replaced-empty (λ i u. ends-of (affordable cs ds rs hs limit i u)) hs (nil .0) (nil .1) (ends-empty _ (λ t m.
           (let a = affordable-out cs ds rs hs limit (nil .0) (getD hs (nil .0) nowhere) t m in
           nil .2 t (a .0) (a .1) (test (nil .0) t (nil .1) (a .0) (a .1) (a .2))))))

@@ -17,7 +17,7 @@ use Rattle.windows.specs.Filling.{set-of, window-asked}
 use Rattle.windows.proofs.Hulls.{some-inj}
 use Rattle.sweep.specs.declared.batches.Batches.{Batches}
 use Rattle.sweep.proofs.Counts.{set-each}
-use Rattle.rated.specs.Measures.{Affords, Some-none, First, Final}
+use Rattle.rated.specs.Measures.{Affords, Some-unaffordable, First, Final}
 
 -- One more period is not affordable.
 pub none-below : (P : ℕ → Type 0) (e v : ℕ) → ((u : ℕ) → e ≤ u → u < v → P u → ⊥) → (P v → ⊥) → (u : ℕ) → e ≤ u → u ≤ v → P u → ⊥
@@ -52,7 +52,7 @@ module _ (w : Windows) (i e l : ℕ) (asked : Some (e, l) ≡ window-asked (set-
   high = ap (λ (p : ℕ × ℕ). p .1) both ∙ ap (latest-of ws) back
 
   module _ (b : Batches) (cs : List ℕ) (limit : ℕ) where
-    pub none-found : ((u : ℕ) → e ≤ u → u ≤ l → Affords b cs limit i u → ⊥) → Some-none b cs limit (set-of w .each)
+    pub none-found : ((u : ℕ) → e ≤ u → u ≤ l → Affords b cs limit i u → ⊥) → Some-unaffordable b cs limit (set-of w .each)
     none-found h = (i, one, λ u lo hi a. h u (omega (arith, low)) (omega (arith, high)) a)
 
     -- v is found and written to the table.

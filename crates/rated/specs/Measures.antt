@@ -55,8 +55,8 @@ abbrev pub Affords : Batches → List ℕ → ℕ → ℕ → ℕ → Type 0
 Affords b cs limit i v = (x : List ℕ) × Fits (opened-list (listed b)) cs (last-of b) x × Has i v x × (charge (λ b. b .rate) (opened-list (listed b)) x ≤ limit)
 
 -- Some batch has no such period in its window.
-abbrev pub Some-none : Batches → List ℕ → ℕ → List Window → Type 0
-Some-none b cs limit ws = (k : ℕ) × (k < length ws) × ((v : ℕ) → earliest-of ws k ≤ v → v ≤ latest-of ws k → Affords b cs limit k v → ⊥)
+abbrev pub Some-unaffordable : Batches → List ℕ → ℕ → List Window → Type 0
+Some-unaffordable b cs limit ws = (k : ℕ) × (k < length ws) × ((v : ℕ) → earliest-of ws k ≤ v → v ≤ latest-of ws k → Affords b cs limit k v → ⊥)
 
 -- v is the first such period in the window of batch k, or the last.
 pub record First (b : Batches) (cs : List ℕ) (limit : ℕ) (ws : List Window) (k v : ℕ) : Type 0 where

@@ -5,6 +5,3 @@ mod scan;
 
 pub use rated::Rated;
 pub use rated::RatedRule;
-
-#[cfg(test)]
-mod tests;

@@ -9,7 +9,8 @@ mod calls;
 
 pub use calls::RatedRule;
 
-// What Flat allows; each batch costs its own rate for each period that it waits before it is due.
+// What Flat allows; each batch costs its own rate for each period that it waits before it is due. Rates up to a million keep
+// every charge below the greatest.
 #[derive(Clone, Copy)]
 pub struct Rated {
     count: u8,

@@ -4,7 +4,7 @@ ghost use Prim.Native.Nat.{ℕ, _<_};
 ghost use lib.ListN.{length, getD};
 ghost use Rattle.std.specs.Options.{Cases as BySome};
 ghost use Rattle.windows.specs.Filling.{set-of};
-ghost use Rattle.rated.specs.Measures.{Some-none, First, Final};
+ghost use Rattle.rated.specs.Measures.{Some-unaffordable, First, Final};
 use crate::measure::affords;
 use sweep::Batches;
 use windows::Windows;
@@ -16,7 +16,7 @@ pub(crate) fn first_affordable(
     limit: u64,
     windows: &Windows,
 ) -> Option<[u8; 32]>
-    ensures { λ r. ⌜ BySome r (Some-none (now (batches .entry)) (now (table .entry)) limit (set-of (now (windows .entry)) .each)) (λ p. (length p ≡ 32) × ((k : ℕ) → k < length (set-of (now (windows .entry)) .each) → First (now (batches .entry)) (now (table .entry)) limit (set-of (now (windows .entry)) .each) k (getD p k 0))) ⌝ }
+    ensures { λ r. ⌜ BySome r (Some-unaffordable (now (batches .entry)) (now (table .entry)) limit (set-of (now (windows .entry)) .each)) (λ p. (length p ≡ 32) × ((k : ℕ) → k < length (set-of (now (windows .entry)) .each) → First (now (batches .entry)) (now (table .entry)) limit (set-of (now (windows .entry)) .each) k (getD p k 0))) ⌝ }
 {
     let mut capacities = *table;
     let mut found = [0; 32];
@@ -40,7 +40,7 @@ pub(crate) fn last_affordable(
     limit: u64,
     windows: &Windows,
 ) -> Option<[u8; 32]>
-    ensures { λ r. ⌜ BySome r (Some-none (now (batches .entry)) (now (table .entry)) limit (set-of (now (windows .entry)) .each)) (λ p. (length p ≡ 32) × ((k : ℕ) → k < length (set-of (now (windows .entry)) .each) → Final (now (batches .entry)) (now (table .entry)) limit (set-of (now (windows .entry)) .each) k (getD p k 0))) ⌝ }
+    ensures { λ r. ⌜ BySome r (Some-unaffordable (now (batches .entry)) (now (table .entry)) limit (set-of (now (windows .entry)) .each)) (λ p. (length p ≡ 32) × ((k : ℕ) → k < length (set-of (now (windows .entry)) .each) → Final (now (batches .entry)) (now (table .entry)) limit (set-of (now (windows .entry)) .each) k (getD p k 0))) ⌝ }
 {
     let mut capacities = *table;
     let mut found = [0; 32];

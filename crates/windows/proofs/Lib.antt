@@ -5,3 +5,4 @@ pub mod Hulls
 pub mod Least
 pub mod Enumerated
 pub mod Held
+pub mod Halving

@@ -3,3 +3,4 @@ pub mod WindowSets
 pub mod Schedules
 pub mod Hulls
 pub mod Filling
+pub mod Halves

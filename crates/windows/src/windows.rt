@@ -6,6 +6,7 @@ ghost use Rattle.windows.specs.WindowSets.{earliest-of, latest-of};
 use crate::window::Window;
 
 mod calls;
+mod parts;
 
 pub use calls::breaks_size;
 

@@ -101,7 +101,7 @@ impl Rated {
 }
 
 impl Rated {
-    // The same capacities and due periods, with no rates.
+    // The rule of the same capacities and due periods without rates. Its fill is never refused: the tables passed these checks.
     fn unrated(&self) -> Flat
         ensures { λ r. ⌜ flat-of r ≡ flat (now (self .entry) .count) (now (self .entry) .last) (take (now (self .entry) .last) (now (self .entry) .capacities)) (take (now (self .entry) .count) (now (self .entry) .dues)) ⌝ }
     {

@@ -1,0 +1,3 @@
+pub mod Run
+pub mod Law
+pub mod Sizes

@@ -1,0 +1,4 @@
+pub mod Table
+pub mod Held
+pub mod Promises
+pub mod Moves
