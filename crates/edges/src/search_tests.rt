@@ -28,10 +28,18 @@ fn two_batches() -> Result<(Windows, Flat), Refusal> {
 }
 
 #[test]
-fn a_search_fits_in_16_kibibytes() -> Result<(), Fail> {
-    check_eq(size_of::<Windows>(), 66)?;
-    check(size_of::<Search<Slots>>() <= 16 * 1024 + size_of::<Slots>())?;
-    check_eq(size_of::<Search<()>>(), 12856)
+fn a_search_fits_in_16_kibibytes(rt: LibcRuntime) -> Result<(), Fail> {
+    let windows = size_of::<Windows>();
+    let alone = size_of::<Search<()>>();
+    let slots = size_of::<Search<Slots>>();
+    let flat = size_of::<Search<Flat>>();
+    println!(
+        rt,
+        "bytes: windows {windows}, search around a unit rule {alone}, Slots {slots}, Flat {flat}"
+    )?;
+    check_eq(windows, 66)?;
+    check_eq(alone, 12856)?;
+    check(alone <= 16 * 1024)
 }
 
 #[test]
