@@ -1,4 +1,4 @@
--- The greater key is ahead, and of two equal keys the lower number. Assumes nothing.
+-- The greater key is ahead, and of two equal keys the lower number.
 use mathlib.Core.Path.{_≡_}
 use mathlib.Core.Bool.{true, false}
 use Prim.Native.Nat.{ℕ, _≤_}

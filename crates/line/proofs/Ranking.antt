@@ -1,4 +1,4 @@
--- An order of waiting ranks its elements. Assumes nothing.
+-- An order of waiting ranks its elements.
 use mathlib.Core.Path.{_≡_, _∙_}
 use mathlib.Core.Bool.{Bool, true, false}
 use mathlib.Core.Logic.{_⊎_, inl, inr, ⊎-elim}

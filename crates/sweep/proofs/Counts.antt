@@ -1,4 +1,4 @@
--- What a write does to a count and to a total. Assumes nothing.
+-- What a write does to a count and to a total.
 use mathlib.Core.Path.{_≡_, refl, sym, subst}
 use mathlib.Core.Logic.{⊎-elim}
 use mathlib.Core.Bool.{cond}

@@ -1,4 +1,4 @@
--- The exchange: for each feasible schedule there is one worth as much that agrees with what has been placed. Assumes nothing.
+-- The exchange: for each feasible schedule there is one worth as much that agrees with what has been placed.
 use mathlib.Core.Path.{_≡_, refl, sym, ap, subst, _∙_}
 use mathlib.Core.Logic.{_⊎_, inl, inr, ⊎-elim}
 use mathlib.Core.List.{List}

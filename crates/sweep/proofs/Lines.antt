@@ -1,4 +1,4 @@
--- A waiting line that is filled in the order of the batches. Assumes nothing.
+-- A waiting line that is filled in the order of the batches.
 use mathlib.Core.Path.{_≡_, sym, ap, subst, _∙_}
 use mathlib.Core.Logic.{⊎-elim}
 use mathlib.Core.Bool.{Bool, false}

@@ -1,4 +1,4 @@
--- Batches with one window narrowed to a period. Assumes nothing.
+-- Batches with one window narrowed to a period.
 use mathlib.Core.Path.{_≡_, refl, sym, ap, subst, _∙_}
 use mathlib.Core.Logic.{⊎-elim}
 use mathlib.Core.List.{List, [], _∷_}

@@ -1,4 +1,4 @@
--- Batches with their windows opened to period 1. Assumes nothing.
+-- Batches with their windows opened to period 1.
 use mathlib.Core.Path.{_≡_, sym, ap, subst, _∙_}
 use mathlib.Core.List.{List, [], _∷_, _++_}
 use Prim.Native.Nat.{ℕ, _+_, _≤_, _<_}

@@ -1,4 +1,4 @@
--- One batch taken out, with one place less in its period. Assumes nothing.
+-- One batch taken out, with one place less in its period.
 use mathlib.Core.Path.{_≡_, sym, ap, subst, _∙_}
 use mathlib.Core.Logic.{⊎-elim}
 use mathlib.Core.List.{List, [], _∷_}

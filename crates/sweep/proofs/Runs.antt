@@ -1,4 +1,4 @@
--- The exchange over lists of batches, for every worth that suits the order. Assumes nothing.
+-- The exchange over lists of batches, for every worth that suits the order.
 use mathlib.Core.Path.{_≡_}
 use mathlib.Core.Bool.{Bool}
 use mathlib.Core.List.{List}

@@ -1,4 +1,4 @@
--- What the ghost fields of batches give. Assumes nothing.
+-- What the ghost fields of batches give.
 use mathlib.Core.Path.{_≡_, sym, ap, subst}
 use mathlib.Core.List.{List}
 use Prim.Native.Nat.{ℕ, _-_, _≤_, _<_}

@@ -1,4 +1,4 @@
--- A charge falls as a worth rises. Assumes nothing.
+-- A charge falls as a worth rises.
 use mathlib.Core.Path.{_≡_, refl, sym, ap, subst, _∙_}
 use mathlib.Core.Bool.{Bool}
 use mathlib.Core.List.{List, [], _∷_}
