@@ -1,4 +1,6 @@
-// Examples and edges of the windows, the rules and the search, each a test.
+//! Examples and edges of the windows, the rules and the search, each a test.
+#![tactic(auto)]
+
 #[cfg(test)]
 mod flat_tests;
 #[cfg(test)]

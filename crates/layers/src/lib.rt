@@ -1,4 +1,6 @@
-// Layers over rules: a pair of two rules, and a rule with a weight.
+//! Layers over rules: a pair of two rules, and a rule with a weight.
+#![tactic(auto)]
+
 ghost use Rattle.layers.specs.Laws.{RoundsSettle};
 
 mod pair;

@@ -1,3 +1,5 @@
+#![tactic(auto)]
+
 mod batch;
 mod by_earliest;
 mod by_rate;

@@ -1,4 +1,6 @@
-// The listing of a sheet: its best plan, as text in the host's memory.
+//! The listing of a sheet: its best plan, as text in the host's memory.
+#![tactic(auto)]
+
 mod listing;
 mod running;
 

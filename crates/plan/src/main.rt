@@ -1,4 +1,6 @@
-// Reads a sheet from standard input and prints its plan.
+//! Reads a sheet from standard input and prints its plan.
+#![tactic(auto)]
+
 use listing::list;
 use std::io::{Read, Write};
 

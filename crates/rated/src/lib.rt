@@ -1,4 +1,6 @@
-// A rule over capacities and due periods that charges each batch by its own rate.
+//! A rule over capacities and due periods that charges each batch by its own rate.
+#![tactic(auto)]
+
 mod measure;
 mod rated;
 mod scan;

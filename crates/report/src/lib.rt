@@ -1,4 +1,6 @@
-// What a search came to, told as text in the host's memory.
+//! What a search came to, told as text in the host's memory.
+#![tactic(auto)]
+
 mod outcome;
 mod plan;
 mod reading;

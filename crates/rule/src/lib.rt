@@ -1,4 +1,6 @@
-// What a rule is to the planner, whoever writes it.
+//! What a rule is to the planner, whoever writes it.
+#![tactic(auto)]
+
 ghost use Rattle.std.specs.Prelude.{◌≡◌};
 ghost use Rattle.windows.specs.Filling.{set_of};
 ghost use Rattle.rule.specs.Meaning.{Meaning, Lawful};

@@ -1,4 +1,6 @@
-// The search as a model: what every call leaves and answers, and the law of every run of calls.
+//! The search as a model: what every call leaves and answers, and the law of every run of calls.
+#![tactic(auto)]
+
 ghost use Rattle.runs.specs.Law.{EveryRun};
 
 mod phase;

@@ -1,4 +1,6 @@
-// The search for the best schedule under a rule.
+//! The search for the best schedule under a rule.
+#![tactic(auto)]
+
 mod call;
 mod held;
 mod history;

@@ -1,4 +1,6 @@
-// Job sheets: the reader of their bytes, and the windows, the rule and the cap that they ask for.
+//! Job sheets: the reader of their bytes, and the windows, the rule and the cap that they ask for.
+#![tactic(auto)]
+
 mod bytes;
 mod head;
 mod job;

@@ -1,4 +1,6 @@
-// Reads sheets from standard input, a line of hexadecimal each, and prints the listing of each and a line `--` after it.
+//! Reads sheets from standard input, a line of hexadecimal each, and prints the listing of each and a line `--` after it.
+#![tactic(auto)]
+
 use crate::hex::decode;
 use listing::list;
 use std::io::{BufRead, BufReader, Write};

@@ -1,2 +1,4 @@
-// The planner for callers in C and Rust: functions on numbers and bytes.
+//! The planner for callers in C and Rust: functions on numbers and bytes.
+#![tactic(auto)]
+
 mod tables;

@@ -1,4 +1,6 @@
-// Follows tasks from the first fill to the last narrowing, and prints each action with its answer.
+//! Follows tasks from the first fill to the last narrowing, and prints each action with its answer.
+#![tactic(auto)]
+
 use std::io;
 
 mod capacities;

@@ -1,4 +1,6 @@
-// Batches, periods and windows, and the numbered refusals of every call.
+//! Batches, periods and windows, and the numbered refusals of every call.
+#![tactic(auto)]
+
 mod refusal;
 mod window;
 mod windows;

@@ -1,4 +1,6 @@
-// Worked figures, proved of the definitions that the contracts cite.
+//! Worked figures, proved of the definitions that the contracts cite.
+#![tactic(auto)]
+
 ghost use Rattle.worked.specs.Figures.{figures, AllHold};
 
 // That every worked figure holds; the number answered says nothing.
