@@ -6,7 +6,7 @@ use crate::waits::Waits;
 
 // The first place of the line that no element is ahead of; nothing for an empty line.
 pub fn front<E: Waits>(line: &[E]) -> Option<usize>
-    ensures { MatchOption result (length line.now ≡ 0) (λ p. Front leads line.now p) }
+    ensures { MatchOption result (length line.now ≡ 0) (λ p. Front E.leads line.now p) }
 {
     if line.is_empty() {
         return None;

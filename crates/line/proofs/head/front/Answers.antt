@@ -23,6 +23,6 @@ loop-i-preserved g c =
 
 pub returns : goal.returns
 returns g c =
-    let some = eqb-false (length c.args.line.now) 0 (sym c.if-is-empty.ensures) in
+    let some = eqb-false (length c.args.line.now) 0 (sym c.if-is_empty.ensures) in
     let all : c.loop-i.i ≡ length c.args.line.now = omega arith in
     front_of_first_best g.E.Waits.leads c.args.line.now c.loop-i.best (subst (λ m. IsFirstBest g.E.Waits.leads c.args.line.now m c.loop-i.best) all c.loop-i.invariant)

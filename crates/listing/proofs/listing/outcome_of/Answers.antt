@@ -20,4 +20,4 @@ pub returns-in-Ok : goal.returns-in-Ok
 returns-in-Ok c =
     let j = c.in-Ok.job in
     let h = c.in-Ok.ensures in
-    accepted_told c.args.sheet.now (rule_of j) (set_of j.windows) j.limit (outcome_text c.search-for.result) h.0 h.1.rule h.1.windows h.1.limit (held_proper j.windows) c.search-for.ensures.text c.search-for.ensures.ended
+    accepted_told c.args.sheet.now (rule_of j) (set_of j.windows) j.limit (outcome_text c.search_for.result) h.0 h.1.rule h.1.windows h.1.limit (held_proper j.windows) c.search_for.ensures.text c.search_for.ensures.ended

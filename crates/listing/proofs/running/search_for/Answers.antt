@@ -13,7 +13,7 @@ use Rattle.listing.proofs.running.search_for.Goals.{After-run}
 
 -- The opening was accepted.
 accepted : (g : given.Over) (c : After-run g) → refusal (g.R.Rule.meaning c.args.rule) fresh («open» (set_of c.args.windows.now) c.args.limit) ≡ 0
-accepted g c = ap (λ r. refusal (g.R.Rule.meaning r) fresh («open» (set_of c.args.windows.now) c.args.limit)) (sym c.new-search.ensures.same) ∙ c.in-default.ensures.answer.0
+accepted g c = ap (λ r. refusal (g.R.Rule.meaning r) fresh («open» (set_of c.args.windows.now) c.args.limit)) (sym c.new-search.ensures.same) ∙ c.in_default.ensures.answer.0
 
 -- The state that the run leaves.
 came : (g : given.Over) (c : After-run g) → state c.run.new.search.inner ≡ searched (g.R.Rule.meaning c.args.rule) (set_of c.args.windows.now) c.args.limit 1000000
@@ -27,9 +27,9 @@ known g c =
     let w = set_of c.args.windows.now in
     subst (Ended m (record { windows = w; cap = c.args.limit }) 1000000) (sym (came g c)) (ended m (g.met.R.Rule.lawful c.args.rule) w c.args.limit 1000000 (held_proper c.args.windows.now) (opened m w c.args.limit (accepted g c)))
 
-pub held-plan-plan-requires : goal.held-plan-plan-requires
-held-plan-plan-requires g c =
-    let e = known g (goal.at.held-plan-plan-requires g c).After-run in
+pub held_plan-plan-requires : goal.held_plan-plan-requires
+held_plan-plan-requires g c =
+    let e = known g (goal.at.held_plan-plan-requires g c).After-run in
     record {
       few = omega (arith, c.batches.ensures, (held_proper c.args.windows.now).few);
       awake = e.awake;
@@ -46,11 +46,11 @@ returns-in-Err g c =
       ended = λ o. absurd (omega (arith, e, opening m w c.args.limit o, numbered c.in-Err.refusal));
     }
 
-pub returns-then-is-done : goal.returns-then-is-done
-returns-then-is-done g c =
-    let a = (goal.at.returns-then-is-done g c).After-run in
+pub returns-then-is_done : goal.returns-then-is_done
+returns-then-is_done g c =
+    let a = (goal.at.returns-then-is_done g c).After-run in
     record {
-      text = done_told (g.R.Rule.meaning c.args.rule) (set_of c.args.windows.now) c.args.limit 1000000 (state c.run.new.search.inner) _ (accepted g a) (came g a) (sym c.if-is-done.ensures) c.held-plan-plan.ensures;
+      text = done_told (g.R.Rule.meaning c.args.rule) (set_of c.args.windows.now) c.args.limit 1000000 (state c.run.new.search.inner) _ (accepted g a) (came g a) (sym c.if-is_done.ensures) c.held_plan-plan.ensures;
       ended = λ _. subst (Ended (g.R.Rule.meaning c.args.rule) _ 1000000) (came g a) (known g a);
     }
 
@@ -58,6 +58,6 @@ pub returns : goal.returns
 returns g c =
     let a = (goal.at.returns g c).After-run in
     record {
-      text = stopped_told (g.R.Rule.meaning c.args.rule) (set_of c.args.windows.now) c.args.limit 1000000 (state c.run.new.search.inner) _ (accepted g a) (came g a) (sym c.if-is-done.ensures) c.held-plan-plan.ensures;
+      text = stopped_told (g.R.Rule.meaning c.args.rule) (set_of c.args.windows.now) c.args.limit 1000000 (state c.run.new.search.inner) _ (accepted g a) (came g a) (sym c.if-is_done.ensures) c.held_plan-plan.ensures;
       ended = λ _. subst (Ended (g.R.Rule.meaning c.args.rule) _ 1000000) (came g a) (known g a);
     }

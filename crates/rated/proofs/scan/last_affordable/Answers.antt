@@ -21,7 +21,7 @@ batches-preserved c =
     let few = (held_proper w).few in (
       c.affords.ensures.back ∙ same,
       length-set found i v ∙ size,
-      final_found w i c.in-ok-earliest.earliest c.in-ok-earliest.latest c.in-ok-earliest.ensures one b table c.args.limit found v (omega arith) (omega arith) (omega (arith, c.loop-late-test.true))
+      final_found w i c.in_ok-earliest.earliest c.in_ok-earliest.latest c.in_ok-earliest.ensures one b table c.args.limit found v (omega arith) (omega arith) (omega (arith, c.loop-late-test.true))
           (affords_told b c.loop-late.capacities table c.args.limit i v same c.if-affords.ensures.told) c.loop-late.invariant.2
           (λ k h. subst (λ (xs : List ℕ). Final b table c.args.limit (set_of w).each k (get_or xs k 0)) (sym kept) (c.batches.invariant.2 k h)),
     )
@@ -35,7 +35,7 @@ loop-late-preserved c =
     let same = c.loop-late.invariant.0 in (
       c.affords.ensures.back ∙ same,
       c.loop-late.invariant.1,
-      λ u lo hi. none_above (Affords b table c.args.limit i) c.in-ok-earliest.latest v c.loop-late.invariant.2 (denies_told b c.loop-late.capacities table c.args.limit i v same c.if-affords.ensures.told) u (omega arith) (omega arith),
+      λ u lo hi. none_above (Affords b table c.args.limit i) c.in_ok-earliest.latest v c.loop-late.invariant.2 (denies_told b c.loop-late.capacities table c.args.limit i v same c.if-affords.ensures.told) u (omega arith) (omega arith),
     )
 
 pub returns-in-batches : goal.returns-in-batches
@@ -46,7 +46,7 @@ returns-in-batches c =
     let i = c.batches.i in
     let v = c.loop-late.late in
     let one : i < length (set_of w).each = omega (arith, c.batches-test.true, c.batches-i-end.ensures) in
-    none_found w i c.in-ok-earliest.earliest c.in-ok-earliest.latest c.in-ok-earliest.ensures one b table c.args.limit (λ u lo hi. elim c.loop-late-test.branch [
+    none_found w i c.in_ok-earliest.earliest c.in_ok-earliest.latest c.in_ok-earliest.ensures one b table c.args.limit (λ u lo hi. elim c.loop-late-test.branch [
       | else-loop-late-test t ↦ c.loop-late.invariant.2 u (omega (arith, t.loop-late-test.false)) hi
-      | then-loop-late-test+else-affords+else·-earliest-late t ↦ none_above (Affords b table c.args.limit i) c.in-ok-earliest.latest v c.loop-late.invariant.2 (denies_told b c.loop-late.capacities table c.args.limit i v c.loop-late.invariant.0 t.if-affords.ensures.told) u (omega (arith, t)) hi
+      | then-loop-late-test+else-affords+else·-earliest-late t ↦ none_above (Affords b table c.args.limit i) c.in_ok-earliest.latest v c.loop-late.invariant.2 (denies_told b c.loop-late.capacities table c.args.limit i v c.loop-late.invariant.0 t.if-affords.ensures.told) u (omega (arith, t)) hi
     ])

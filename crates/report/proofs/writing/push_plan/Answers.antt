@@ -5,8 +5,8 @@ use Rattle.report.proofs.writing.push_plan.Goals as goal
 pub push-requires-2 : goal.push-requires-2
 push-requires-2 c = search (rules, length-decimal-le 20)
 
-pub push-lines-requires : goal.push-lines-requires
-push-lines-requires c = search (rules, length-decimal-le 20, length-take)
+pub push_lines-requires : goal.push_lines-requires
+push_lines-requires c = search (rules, length-decimal-le 20, length-take)
 
 pub returns : goal.returns
 returns c = search (rules, append_assoc)

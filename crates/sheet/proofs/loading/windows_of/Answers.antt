@@ -7,8 +7,8 @@ pub returns-in-Ok : goal.returns-in-Ok
 returns-in-Ok c =
     let b = c.args.bytes.now in
     let h = c.args.head in
-    let es = column_taken b h c.requires 0 c.column-table-earliest.result _ c.batch-section-batches.ensures c.column-table-earliest.ensures.front in
-    let ls = column_taken b h c.requires 1 c.column-table-latest.result _ c.batch-section-batches.ensures c.column-table-latest.ensures.front in (
+    let es = column_taken b h c.requires 0 c.column_table-earliest.result _ c.batch_section-batches.ensures c.column_table-earliest.ensures.front in
+    let ls = column_taken b h c.requires 1 c.column_table-latest.result _ c.batch_section-batches.ensures c.column_table-latest.ensures.front in (
       struck_not 6 (bad_windows b) (omega arith) (sym (windows_checked b h c.requires _ _ es ls) ∙ c.in-Ok.ensures.0),
       c.in-Ok.ensures.1 ∙ windows_filled b h c.requires _ _ es ls,
     )
@@ -17,6 +17,6 @@ pub returns-in-Err : goal.returns-in-Err
 returns-in-Err c =
     let b = c.args.bytes.now in
     let h = c.args.head in
-    let es = column_taken b h c.requires 0 c.column-table-earliest.result _ c.batch-section-batches.ensures c.column-table-earliest.ensures.front in
-    let ls = column_taken b h c.requires 1 c.column-table-latest.result _ c.batch-section-batches.ensures c.column-table-latest.ensures.front in
+    let es = column_taken b h c.requires 0 c.column_table-earliest.result _ c.batch_section-batches.ensures c.column_table-earliest.ensures.front in
+    let ls = column_taken b h c.requires 1 c.column_table-latest.result _ c.batch_section-batches.ensures c.column_table-latest.ensures.front in
     struck_by 6 (bad_windows b) c.in-Err.refusal (sym (windows_checked b h c.requires _ _ es ls) ∙ c.in-Err.ensures.0)

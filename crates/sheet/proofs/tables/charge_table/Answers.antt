@@ -8,7 +8,7 @@ pub bounds-table-k : goal.bounds-table-k
 bounds-table-k c = omega (arith, square_most c.args.kinds c.requires.few)
 
 pub loop-k-preserved : goal.loop-k-preserved
-loop-k-preserved c = entry_more (λ (i : ℕ). word 2 c.args.section.now (2 * i)) 64 c.loop-k.k c.from-be-bytes.result c.loop-k.table (omega (arith, square_most c.args.kinds c.requires.few)) (omega (arith, c.from-be-bytes.ensures, c.byte.ensures, c.byte-in-loop-k.ensures)) c.loop-k.invariant
+loop-k-preserved c = entry_more (λ (i : ℕ). word 2 c.args.section.now (2 * i)) 64 c.loop-k.k c.from_be_bytes.result c.loop-k.table (omega (arith, square_most c.args.kinds c.requires.few)) (omega (arith, c.from_be_bytes.ensures, c.byte.ensures, c.byte-in-loop-k.ensures)) c.loop-k.invariant
 
 pub returns : goal.returns
 returns c =

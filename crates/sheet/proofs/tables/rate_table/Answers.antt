@@ -4,7 +4,7 @@ use Rattle.sheet.proofs.Fronts.{front_is, entry_more}
 use Rattle.sheet.proofs.tables.rate_table.Goals as goal
 
 pub loop-k-preserved : goal.loop-k-preserved
-loop-k-preserved c = entry_more (λ (i : ℕ). word 2 c.args.section.now (6 * i + 4)) 32 c.loop-k.k c.from-be-bytes-rate.result c.loop-k.table (omega (arith, c.requires.few)) (omega (arith, c.from-be-bytes-rate.ensures, c.byte.ensures, c.byte-in-loop-k.ensures)) c.loop-k.invariant
+loop-k-preserved c = entry_more (λ (i : ℕ). word 2 c.args.section.now (6 * i + 4)) 32 c.loop-k.k c.from_be_bytes-rate.result c.loop-k.table (omega (arith, c.requires.few)) (omega (arith, c.from_be_bytes-rate.ensures, c.byte.ensures, c.byte-in-loop-k.ensures)) c.loop-k.invariant
 
 pub returns : goal.returns
 returns c =

@@ -8,8 +8,8 @@ use Rattle.sweep.proofs.Lines.{Line, line_skips, line_joins, line_front, line_nu
 use Rattle.sweep.proofs.placing.next.Goals as goal
 use Rattle.sweep.proofs.placing.next.Goals.{then-placed-k-eq0+then-t-batch, else-placed-k-eq0}
 
-pub offset-bounds-line-m : goal.offset-bounds-line-m
-offset-bounds-line-m g c =
+pub offset_bounds-line-m : goal.offset_bounds-line-m
+offset_bounds-line-m g c =
     let le : c.loop-k.m ≤ 32 = omega (arith, c.loop-k.invariant.1.short, c.requires.few, c.loop-k-test.true) in
     let more : c.loop-k.m * size (layout g.row.E) ≤ 32 * size (layout g.row.E) = mul-le-mul_right _ le in
     omega (arith, more, c.requires.roomy)

@@ -4,7 +4,7 @@ use Rattle.sweep.specs.Charges.{latest_at, capacity_at}
 use Rattle.sweep.proofs.Runs.{Going, Filled, going_start, going_put, going_close, going_stuck, going_done}
 use Rattle.sweep.proofs.placing.sweep.Given as given
 use Rattle.sweep.proofs.placing.sweep.Goals as goal
-use Rattle.sweep.proofs.placing.sweep.Goals.{Left-loop-room, else-loop-room-test, then-loop-room-test+in-default}
+use Rattle.sweep.proofs.placing.sweep.Goals.{Left-loop-room, else-loop-room-test, then-loop-room-test+in_default}
 
 pub loop-t-init : goal.loop-t-init
 loop-t-init g c = (refl, omega arith, going_start g.E.Waits.leads g.E.Waits.made c.args.batches.now c.args.capacities.now c.args.last c.requires.sound)
@@ -20,7 +20,7 @@ filled : (g : given.Over) (c : Left-loop-room g) → Filled c.args.batches.now c
 filled g c =
     elim c.loop-room-test.branch [
       | else-loop-room-test w ↦ inl (omega (arith, w.loop-room-test.false))
-      | then-loop-room-test+in-default w ↦ inr (λ k h pk. ⊎_elim (λ l. l) (λ l. absurd (w.in-default.ensures k h (pk, l))) (cases_lt (latest_at c.args.batches.now k) c.loop-t.t))
+      | then-loop-room-test+in_default w ↦ inr (λ k h pk. ⊎_elim (λ l. l) (λ l. absurd (w.in_default.ensures k h (pk, l))) (cases_lt (latest_at c.args.batches.now k) c.loop-t.t))
     ]
 
 pub returns-then-stranded : goal.returns-then-stranded

@@ -15,11 +15,11 @@ use Rattle.wake.proofs.tables.narrow_rated.Goals as goal
 use Rattle.wake.proofs.tables.narrow_rated.Goals.{After-fill}
 
 -- The rates that the rule is filled with.
-paired-rates : (c : After-fill) → take (c.args.batches - 0) c.rate-table-table.result ≡ pairs c.args.batches c.args.rates.now
-paired-rates c = let z : c.args.batches - 0 ≡ c.args.batches = omega arith in ap (λ (k : ℕ). take k c.rate-table-table.result) z ∙ c.rate-table-table.ensures.front
+paired-rates : (c : After-fill) → take (c.args.batches - 0) c.rate_table-table.result ≡ pairs c.args.batches c.args.rates.now
+paired-rates c = let z : c.args.batches - 0 ≡ c.args.batches = omega arith in ap (λ (k : ℕ). take k c.rate_table-table.result) z ∙ c.rate_table-table.ensures.front
 
 -- The other tables have the right lengths, so the checks of the fill are the first of the call.
-judged : (c : After-fill) → struck (rated_checks c.args.batches c.args.periods c.args.capacities.now c.args.dues.now (take (c.args.batches - 0) c.rate-table-table.result))
+judged : (c : After-fill) → struck (rated_checks c.args.batches c.args.periods c.args.capacities.now c.args.dues.now (take (c.args.batches - 0) c.rate_table-table.result))
     ≡ struck ((3, out_of_size c.args.batches c.args.periods) ∷ ((4, not (((eqb (length c.args.earliest.now) c.args.batches && eqb (length c.args.latest.now) c.args.batches) && eqb (length c.args.rates.now) (2 * c.args.batches)) && (eqb (length c.args.capacities.now) c.args.periods && eqb (length c.args.dues.now) c.args.batches))) ∷ ((5, outside 0 32 c.args.capacities.now || (outside 1 c.args.periods c.args.dues.now || outside 0 max_rate (pairs c.args.batches c.args.rates.now))) ∷ [])))
 judged c =
     let n = c.args.batches in
@@ -31,17 +31,17 @@ pub returns-in-Err : goal.returns-in-Err
 returns-in-Err c =
     (struck_first _ (window_checks (rated c.args.batches c.args.periods c.args.capacities.now c.args.dues.now (pairs c.args.batches c.args.rates.now)) c.args.periods c.args.earliest.now c.args.latest.now c.args.limit) (number c.in-Err.refusal) (numbered c.in-Err.refusal) (sym (judged (goal.at.returns-in-Err c).After-fill) ∙ c.in-Err.ensures.0), refl, refl)
 
-pub narrow-windows-requires : goal.narrow-windows-requires
-narrow-windows-requires c =
+pub narrow_windows-requires : goal.narrow_windows-requires
+narrow_windows-requires c =
     let n = c.args.batches in
     let T = c.args.periods in
-    record { fits = ap (λ m. m.fits n T) c.in-default.ensures.1 ∙ same_fits n T; sized = sym c.if-breaks-size.ensures; starts = c.if-earliest-batches.false; ends = c.if-latest-batches.false }
+    record { fits = ap (λ m. m.fits n T) c.in_default.ensures.1 ∙ same_fits n T; sized = sym c.if-breaks_size.ensures; starts = c.if-earliest-batches.false; ends = c.if-latest-batches.false }
 
 pub returns : goal.returns
 returns c =
     let a = (goal.at.returns c).After-fill in
     let n = c.args.batches in
     let T = c.args.periods in
-    let f = c.in-default.ensures in
+    let f = c.in_default.ensures in
     let q = filled _ _ _ (sym (judged a) ∙ f.0) in
-    answered _ n T c.args.limit _ _ c.args.earliest.now c.args.latest.now (sym c.if-breaks-size.ensures) _ c.narrow-windows.new.earliest c.narrow-windows.new.latest c.narrow-windows.result (f.1 ∙ ap (rated n T c.args.capacities.now c.args.dues.now) (paired-rates a)) q.0 q.1 c.narrow-windows.ensures
+    answered _ n T c.args.limit _ _ c.args.earliest.now c.args.latest.now (sym c.if-breaks_size.ensures) _ c.narrow_windows.new.earliest c.narrow_windows.new.latest c.narrow_windows.result (f.1 ∙ ap (rated n T c.args.capacities.now c.args.dues.now) (paired-rates a)) q.0 q.1 c.narrow_windows.ensures

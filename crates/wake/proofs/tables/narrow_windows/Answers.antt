@@ -12,27 +12,27 @@ returns-in-Err g c =
 pub returns-in-Err-narrow : goal.returns-in-Err-narrow
 returns-in-Err-narrow g c =
     let r = c.args.rule.now in
-    let f = c.in-default.ensures in (
+    let f = c.in_default.ensures in (
       narrow_checked (g.R.Rule.meaning r) c.args.batches c.args.periods c.args.limit c.args.earliest.now c.args.latest.now c.requires.sized c.requires.starts c.requires.ends (g.met.R.Rule.lawful r) c.requires.fits c.fill.new.self f.0 f.1 ∙ c.in-Err-narrow.ensures.0,
       refl,
       refl,
     )
 
-pub write-windows-requires : goal.write-windows-requires
-write-windows-requires g c =
+pub write_windows-requires : goal.write_windows-requires
+write_windows-requires g c =
     let r = c.args.rule.now in
-    let f = c.in-default.ensures in
-    let h = c.in-default-narrow.ensures in
+    let f = c.in_default.ensures in
+    let h = c.in_default-narrow.ensures in
     let n = cut_long (g.R.Rule.meaning r) c.args.batches c.args.periods c.args.limit c.args.earliest.now c.args.latest.now c.requires.sized c.requires.starts c.requires.ends (g.met.R.Rule.lawful r) c.requires.fits c.fill.new.self f.0 f.1 (set_of c.narrow.new.windows) h.1 h.0 in
     record { starts = c.requires.starts ∙ sym n; ends = c.requires.ends ∙ sym n }
 
 pub returns : goal.returns
 returns g c =
     let r = c.args.rule.now in
-    let f = c.in-default.ensures in
-    let h = c.in-default-narrow.ensures in
+    let f = c.in_default.ensures in
+    let h = c.in_default-narrow.ensures in
     let v = cut_given (g.R.Rule.meaning r) c.args.batches c.args.periods c.args.limit c.args.earliest.now c.args.latest.now c.requires.sized c.requires.starts c.requires.ends (g.met.R.Rule.lawful r) c.requires.fits c.fill.new.self f.0 f.1 (set_of c.narrow.new.windows) h.1 in (
       narrow_checked (g.R.Rule.meaning r) c.args.batches c.args.periods c.args.limit c.args.earliest.now c.args.latest.now c.requires.sized c.requires.starts c.requires.ends (g.met.R.Rule.lawful r) c.requires.fits c.fill.new.self f.0 f.1 ∙ h.0,
-      c.write-windows.ensures.first ∙ ap first_periods (sym v),
-      c.write-windows.ensures.last ∙ ap last_periods (sym v),
+      c.write_windows.ensures.first ∙ ap first_periods (sym v),
+      c.write_windows.ensures.last ∙ ap last_periods (sym v),
     )

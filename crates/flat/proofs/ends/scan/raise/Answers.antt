@@ -6,8 +6,8 @@ use Rattle.flat.proofs.ends.scan.raise.Goals as goal
 pub loop-v-init : goal.loop-v-init
 loop-v-init c = (refl, λ x good. omega (arith, c.last-v.ensures, ends_at c.args.batches.now c.args.capacities.now c.args.limit x good c.args.i c.requires.one))
 
-pub overflow-add-above : goal.overflow-add-above
-overflow-add-above c =
+pub overflow_add-above : goal.overflow_add-above
+overflow_add-above c =
     let b = c.args.batches.now in
     let s = c.requires.found.final c.args.i c.requires.one in
     omega (arith, s.2, ends_at b c.args.capacities.now c.args.limit s.0 s.1 c.args.i c.requires.one, b.most)

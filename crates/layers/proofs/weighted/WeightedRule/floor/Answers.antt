@@ -5,8 +5,8 @@ use Rattle.rule.specs.Meaning.{max_charge}
 use Rattle.layers.proofs.weighted.WeightedRule.floor.Goals as goal
 
 -- At most 100 times C.
-pub overflow-mul-get : goal.overflow-mul-get
-overflow-mul-get g c =
+pub overflow_mul-get : goal.overflow_mul-get
+overflow_mul-get g c =
     let s = c.args.self.now in
     let w = c.args.windows.now in
     let top = (g.met.R.Rule.lawful s.rule).floor_top (set_of w) (held_proper w) in

@@ -3,29 +3,29 @@ use Rattle.flat.specs.Loading.{flat_of}
 use Rattle.rated.proofs.Cutting.{no_hull, hull_some, never_nothing, unaffordable, filled_cut}
 use Rattle.rated.proofs.rated.Rated.cut.Goals as goal
 
-pub returns-in-default : goal.returns-in-default
-returns-in-default c = (no_hull c.args.self.now (flat_of c.unrated.result) c.args.windows.now c.narrow.new.windows c.in-default.field-0 c.args.limit c.unrated.ensures c.in-default.ensures, refl, refl)
+pub returns-in_default : goal.returns-in_default
+returns-in_default c = (no_hull c.args.self.now (flat_of c.unrated.result) c.args.windows.now c.narrow.new.windows c.in_default.field-0 c.args.limit c.unrated.ensures c.in_default.ensures, refl, refl)
 
-pub returns-in-default-batches : goal.returns-in-default-batches
-returns-in-default-batches c =
+pub returns-in_default-batches : goal.returns-in_default-batches
+returns-in_default-batches c =
     let r = c.args.self.now in
     let w = c.args.windows.now in
     let h = c.narrow.new.windows in
-    absurd (never_nothing r w h c.args.limit (hull_some r (flat_of c.unrated.result) w h c.unrated.ensures c.in-Ok.ensures) c.in-default-batches.ensures)
+    absurd (never_nothing r w h c.args.limit (hull_some r (flat_of c.unrated.result) w h c.unrated.ensures c.in-Ok.ensures) c.in_default-batches.ensures)
 
-pub returns-in-default-first-affordable : goal.returns-in-default-first-affordable
-returns-in-default-first-affordable c =
+pub returns-in_default-first_affordable : goal.returns-in_default-first_affordable
+returns-in_default-first_affordable c =
     let r = c.args.self.now in
     let w = c.args.windows.now in
     let h = c.narrow.new.windows in
-    (unaffordable r w h c.args.limit (hull_some r (flat_of c.unrated.result) w h c.unrated.ensures c.in-Ok.ensures) c.in-Some.batches c.in-Some.ensures c.in-default-first-affordable.ensures, refl, refl)
+    (unaffordable r w h c.args.limit (hull_some r (flat_of c.unrated.result) w h c.unrated.ensures c.in-Ok.ensures) c.in-Some.batches c.in-Some.ensures c.in_default-first_affordable.ensures, refl, refl)
 
-pub returns-in-default-last-affordable : goal.returns-in-default-last-affordable
-returns-in-default-last-affordable c =
+pub returns-in_default-last_affordable : goal.returns-in_default-last_affordable
+returns-in_default-last_affordable c =
     let r = c.args.self.now in
     let w = c.args.windows.now in
     let h = c.narrow.new.windows in
-    (unaffordable r w h c.args.limit (hull_some r (flat_of c.unrated.result) w h c.unrated.ensures c.in-Ok.ensures) c.in-Some.batches c.in-Some.ensures c.in-default-last-affordable.ensures, refl, refl)
+    (unaffordable r w h c.args.limit (hull_some r (flat_of c.unrated.result) w h c.unrated.ensures c.in-Ok.ensures) c.in-Some.batches c.in-Some.ensures c.in_default-last_affordable.ensures, refl, refl)
 
 pub returns : goal.returns
 returns c =
@@ -33,10 +33,10 @@ returns c =
     let w = c.args.windows.now in
     let h = c.narrow.new.windows in
     let m = c.batches-n.result in
-    let p = c.in-Some-first-affordable.earliest in
-    let q = c.in-Some-last-affordable.latest in
-    let first = c.in-Some-first-affordable.ensures in
-    let final = c.in-Some-last-affordable.ensures in
+    let p = c.in-Some-first_affordable.earliest in
+    let q = c.in-Some-last_affordable.latest in
+    let first = c.in-Some-first_affordable.ensures in
+    let final = c.in-Some-last_affordable.ensures in
     let z : m - 0 ≡ m = omega arith in
     filled_cut r w h c.args.limit (hull_some r (flat_of c.unrated.result) w h c.unrated.ensures c.in-Ok.ensures) c.in-Some.batches c.in-Some.ensures m c.periods.result (take (m - 0) p) (take (m - 0) q) p q
     c.batches-n.ensures c.periods.ensures (ap (λ k. take k p) z) (ap (λ k. take k q) z) (first.0, final.0) first.1 final.1 c.fill.new.self c.fill.result c.fill.ensures

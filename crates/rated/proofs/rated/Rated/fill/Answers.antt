@@ -7,38 +7,27 @@ use Rattle.rated.specs.Rates.{rated}
 use Rattle.rated.proofs.Loads.{rated_accepted, tables}
 use Rattle.rated.proofs.rated.Rated.fill.Goals as goal
 
-pub invariant-of-self : goal.invariant-of-self
-invariant-of-self c =
+pub invariant_of-self : goal.invariant_of-self
+invariant_of-self c =
     let n = c.args.batches in
     let T = c.args.periods in
     let cs = c.args.capacities.now in
     let ds = c.args.dues.now in
     let rs = c.args.rates.now in
-    let known = sym c.if-breaks-size.ensures in
+    let known = sym c.if-breaks_size.ensures in
     let size = size_known n T known in
-    let same = tables n T cs ds rs c.padded.result c.padded-2.result c.rate-table.result known c.if-capacities-periods.false c.if-dues-batches.false c.if-rates-batches.false c.padded.ensures c.padded-2.ensures c.rate-table.ensures in
-    let low : (k : ℕ) → get_or c.rate-table.result k 0 ≤ 1000000 = λ k. subst (λ (ts : List ℕ). get_or ts k 0 ≤ 1000000) (sym c.rate-table.ensures) (padded_most 32 1000000 rs (λ j h. omega (arith, (each_inside 0 max_rate rs (sym c.if-some-dear.ensures) j h).1)) k) in (
-      ap length c.padded.ensures ∙ length_padded 64 cs,
-      (
-        ap length c.padded-2.ensures ∙ length_padded 32 ds,
-        (
-          ap length c.rate-table.ensures ∙ length_padded 32 rs,
-          (
-            size.0,
-            (
-              size.1,
-              (
-                size.2,
-                (
-                  ap (outside 0 32) same.capacities ∙ sym c.if-some-outside.ensures,
-                  (ap (outside 1 T) same.dues ∙ sym c.if-some-outside-2.ensures, (low, tt)),
-                ),
-              ),
-            ),
-          ),
-        ),
-      ),
-    )
+    let same = tables n T cs ds rs c.padded.result c.padded-2.result c.rate_table.result known c.if-capacities-periods.false c.if-dues-batches.false c.if-rates-batches.false c.padded.ensures c.padded-2.ensures c.rate_table.ensures in
+    let low : (k : ℕ) → get_or c.rate_table.result k 0 ≤ 1000000 = λ k. subst (λ (ts : List ℕ). get_or ts k 0 ≤ 1000000) (sym c.rate_table.ensures) (padded_most 32 1000000 rs (λ j h. omega (arith, (each_inside 0 max_rate rs (sym c.if-some_dear.ensures) j h).1)) k) in record {
+      long = ap length c.padded.ensures ∙ length_padded 64 cs;
+      dated = ap length c.padded-2.ensures ∙ length_padded 32 ds;
+      priced = ap length c.rate_table.ensures ∙ length_padded 32 rs;
+      few = size.0;
+      some = size.1;
+      most = size.2;
+      roomy = ap (outside 0 32) same.capacities ∙ sym c.if-some_outside.ensures;
+      timely = ap (outside 1 T) same.dues ∙ sym c.if-some_outside-2.ensures;
+      cheap = low;
+    }
 
 pub returns : goal.returns
 returns c =
@@ -47,8 +36,8 @@ returns c =
     let cs = c.args.capacities.now in
     let ds = c.args.dues.now in
     let rs = c.args.rates.now in
-    let known = sym c.if-breaks-size.ensures in
-    let same = tables n T cs ds rs c.padded.result c.padded-2.result c.rate-table.result known c.if-capacities-periods.false c.if-dues-batches.false c.if-rates-batches.false c.padded.ensures c.padded-2.ensures c.rate-table.ensures in (
-      rated_accepted n T cs ds rs known c.if-capacities-periods.false c.if-dues-batches.false c.if-rates-batches.false (sym c.if-some-outside.ensures) (sym c.if-some-outside-2.ensures) (sym c.if-some-dear.ensures),
-      ap (λ a. rated n T a (take n c.padded-2.result) (take n c.rate-table.result)) same.capacities ∙ ap (λ a. rated n T cs a (take n c.rate-table.result)) same.dues ∙ ap (rated n T cs ds) same.rates,
+    let known = sym c.if-breaks_size.ensures in
+    let same = tables n T cs ds rs c.padded.result c.padded-2.result c.rate_table.result known c.if-capacities-periods.false c.if-dues-batches.false c.if-rates-batches.false c.padded.ensures c.padded-2.ensures c.rate_table.ensures in (
+      rated_accepted n T cs ds rs known c.if-capacities-periods.false c.if-dues-batches.false c.if-rates-batches.false (sym c.if-some_outside.ensures) (sym c.if-some_outside-2.ensures) (sym c.if-some_dear.ensures),
+      ap (λ a. rated n T a (take n c.padded-2.result) (take n c.rate_table.result)) same.capacities ∙ ap (λ a. rated n T cs a (take n c.rate_table.result)) same.dues ∙ ap (rated n T cs ds) same.rates,
     )

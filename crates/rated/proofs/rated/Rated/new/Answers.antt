@@ -2,5 +2,15 @@ use Rattle.std.proofs.Common.{refl, arith}
 use Rattle.rule.proofs.Entries.{zeros}
 use Rattle.rated.proofs.rated.Rated.new.Goals as goal
 
-pub invariant-of-result : goal.invariant-of-result
-invariant-of-result c = (refl, (refl, (refl, (omega arith, (omega arith, (omega arith, (refl, (refl, ((λ k. omega (arith, zeros 32 k)), tt)))))))))
+pub invariant_of-result : goal.invariant_of-result
+invariant_of-result c = record {
+  long = refl;
+  dated = refl;
+  priced = refl;
+  few = omega arith;
+  some = omega arith;
+  most = omega arith;
+  roomy = refl;
+  timely = refl;
+  cheap = (λ k. omega (arith, zeros 32 k));
+}

@@ -14,8 +14,8 @@ loop-k-init c = draws_opens c.args.self.now c.args.places.now c.requires c.loop-
 pub returns : goal.returns
 returns c = draws_end c.args.self.now c.args.places.now c.requires c.loop-t.t c.loop-t.total c.loop-t.before c.loop-t-test.false c.loop-t.invariant
 
-pub overflow-add-total : goal.overflow-add-total
-overflow-add-total c = omega (arith, total_fits c.args.self.now c.args.places.now c.requires c.loop-t.t c.loop-k.total c.loop-k.before c.loop-k.k c.loop-k-test.true c.loop-k.invariant c.if-places-k.true c.load-total.result c.load-total.ensures)
+pub overflow_add-total : goal.overflow_add-total
+overflow_add-total c = omega (arith, total_fits c.args.self.now c.args.places.now c.requires c.loop-t.t c.loop-k.total c.loop-k.before c.loop-k.k c.loop-k-test.true c.loop-k.invariant c.if-places-k.true c.load-total.result c.load-total.ensures)
 
 pub loop-k-preserved : goal.loop-k-preserved
 loop-k-preserved c =

@@ -2,5 +2,14 @@ use Rattle.std.proofs.Common.{refl, arith}
 use Rattle.rule.proofs.Entries.{zeros}
 use Rattle.reload.proofs.reload.Reload.new.Goals as goal
 
-pub invariant-of-result : goal.invariant-of-result
-invariant-of-result c = (refl, (refl, (omega arith, (omega arith, (omega arith, ((λ k h. absurd (omega arith)), ((λ k h. absurd (omega arith)), ((λ k. omega (arith, zeros 64 k)), tt))))))))
+pub invariant_of-result : goal.invariant_of-result
+invariant_of-result c = record {
+  long = refl;
+  square = refl;
+  few = omega arith;
+  most = omega arith;
+  eight = omega arith;
+  named = (λ k h. absurd (omega arith));
+  known = (λ k h. absurd (omega arith));
+  low = (λ k. omega (arith, zeros 64 k));
+}

@@ -2,8 +2,8 @@ use Rattle.std.proofs.Common.{arith}
 use Rattle.report.proofs.Spelled.{room, spell_more, spell_last}
 use Rattle.report.proofs.text.Text.push_number.Goals as goal
 
-pub overflow-sub-start : goal.overflow-sub-start
-overflow-sub-start c = room c.args.number c.loop-rest.rest c.loop-rest.start c.loop-rest.digits (omega arith) c.loop-rest.invariant
+pub overflow_sub-start : goal.overflow_sub-start
+overflow_sub-start c = room c.args.number c.loop-rest.rest c.loop-rest.start c.loop-rest.digits (omega arith) c.loop-rest.invariant
 
 pub loop-rest-preserved : goal.loop-rest-preserved
 loop-rest-preserved c =

@@ -5,17 +5,27 @@ use Rattle.search.specs.Held.{older, plan_of}
 use Rattle.search.proofs.Tables.{phase_on, room_older}
 use Rattle.search.proofs.search.Search.close.Goals as goal
 
-pub invariant-of-self : goal.invariant-of-self
-invariant-of-self g c =
+pub invariant_of-self : goal.invariant_of-self
+invariant_of-self g c =
     let s = c.args.self.now in
     let i = s.inner in
-    (s.long, (omega (arith, s.few), ((λ e. (let z : ◌≡◌ {A = ℕ} 0 1 = cc in omega arith)), (room_older i.parts i.count (s.busy c.requires) s.room, tt))))
+    record {
+      long = s.long;
+      few = omega (arith, s.few);
+      busy = (λ e. (let z : ◌≡◌ {A = ℕ} 0 1 = cc in omega arith));
+      room = room_older i.parts i.count (s.busy c.requires) s.room;
+    }
 
-pub invariant-of-self-else-self-eq0 : goal.invariant-of-self-else-self-eq0
-invariant-of-self-else-self-eq0 g c =
+pub invariant_of-self-else-self-eq0 : goal.invariant_of-self-else-self-eq0
+invariant_of-self-else-self-eq0 g c =
     let s = c.args.self.now in
     let i = s.inner in
-    (s.long, (omega (arith, s.few), ((λ e. omega arith), (room_older i.parts i.count (s.busy c.requires) s.room, tt))))
+    record {
+      long = s.long;
+      few = omega (arith, s.few);
+      busy = (λ e. omega arith);
+      room = room_older i.parts i.count (s.busy c.requires) s.room;
+    }
 
 pub returns-else-self-eq0 : goal.returns-else-self-eq0
 returns-else-self-eq0 g c =

@@ -1,5 +1,10 @@
 use Rattle.std.proofs.Common.{◌≡◌, ℕ, refl, arith}
 use Rattle.search.proofs.search.Search.new.Goals as goal
 
-pub invariant-of-result : goal.invariant-of-result
-invariant-of-result g c = (refl, (omega arith, ((λ e. (let z : ◌≡◌ {A = ℕ} 0 1 = cc in omega arith)), (∣ tt ∣₁, tt))))
+pub invariant_of-result : goal.invariant_of-result
+invariant_of-result g c = record {
+  long = refl;
+  few = omega arith;
+  busy = (λ e. (let z : ◌≡◌ {A = ℕ} 0 1 = cc in omega arith));
+  room = ∣ tt ∣₁;
+}

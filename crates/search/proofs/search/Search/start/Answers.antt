@@ -7,13 +7,15 @@ use Rattle.search.specs.Table.{Roomy}
 use Rattle.search.proofs.Tables.{stack_push, room_one}
 use Rattle.search.proofs.search.Search.start.Goals as goal
 
-pub invariant-of-self : goal.invariant-of-self
-invariant-of-self g c =
+pub invariant_of-self : goal.invariant_of-self
+invariant_of-self g c =
     let s = c.args.self.now in
-    let w = c.args.windows.now in (
-      length-set s.inner.parts 0 w ∙ s.long,
-      (omega arith, ((λ e. omega arith), (subst (λ (ps : List WindowSet). ∥ Roomy ps ∥₁) (sym (stack_push s.inner.parts 0 w (omega (arith, s.long)))) (room_one w), tt))),
-    )
+    let w = c.args.windows.now in record {
+      long = length-set s.inner.parts 0 w ∙ s.long;
+      few = omega arith;
+      busy = (λ e. omega arith);
+      room = subst (λ (ps : List WindowSet). ∥ Roomy ps ∥₁) (sym (stack_push s.inner.parts 0 w (omega (arith, s.long)))) (room_one w);
+    }
 
 pub returns : goal.returns
 returns g c =

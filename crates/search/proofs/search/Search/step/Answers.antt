@@ -16,7 +16,7 @@ returns g c =
     let s = c.args.self.now in
     let i = s.inner in
     let m = g.R.Rule.meaning s.rule in
-    let n = c.in-default.ensures in
+    let n = c.in_default.ensures in
     let top = stack_top i.parts i.count (s.busy (runs_on i.phase n)) in
     record {
       same = c.advance.ensures.same;

@@ -13,5 +13,5 @@ returns-in-Err g c =
 pub returns : goal.returns
 returns g c =
     let s = c.args.self.now in
-    let n = c.in-default.ensures in
+    let n = c.in_default.ensures in
     record { same = c.lower.ensures.same; goes = took (g.R.Rule.meaning s.rule) (g.met.R.Rule.lawful s.rule) (tighten c.args.limit) (λ cs given. given) (state s.inner) (state c.lower.new.self.inner) n c.lower.ensures.lowered; answer = (n, tt) }

@@ -4,8 +4,8 @@ use Rattle.sweep.proofs.Worths.{charge_small, charge_more}
 use Rattle.sweep.proofs.batches.Batches.charge.Goals as goal
 use Rattle.sweep.proofs.batches.Batches.charge.Goals.{then-placed-k, else-placed-k}
 
-pub overflow-add-sum : goal.overflow-add-sum
-overflow-add-sum c =
+pub overflow_add-sum : goal.overflow_add-sum
+overflow_add-sum c =
     let b = at c.args.self.now.each c.loop-k.k in
     omega (arith, charge_small b.rate (b.due - get_or c.args.placed.now c.loop-k.k 0) (omega arith) (omega arith))
 

@@ -46,22 +46,18 @@ left c P holds k h =
     let m = length-remove (listed b) i inside in
     subst P (sym (c.loop-k.invariant.1 k (omega arith))) (each_removed P (listed b) i inside (λ j l. subst P (sym (at_listed b j (omega arith))) (holds j (omega arith))) k (omega arith))
 
-pub invariant-of-result : goal.invariant-of-result
-invariant-of-result c =
+pub invariant_of-result : goal.invariant_of-result
+invariant_of-result c =
     let b = c.args.self.now in
-    let few = b.few in (
-      c.loop-k.invariant.0,
-      (
-        omega arith,
-        (
-          b.most,
-          (
-            left c (λ v. 1 ≤ v.earliest) b.starts,
-            (left c (λ v. v.earliest ≤ v.latest) b.holds, (left c (λ v. v.latest ≤ b.last) b.ends, (left c (λ v. v.latest ≤ v.due) b.timely, tt))),
-          ),
-        ),
-      ),
-    )
+    let few = b.few in record {
+      long = c.loop-k.invariant.0;
+      few = omega arith;
+      most = b.most;
+      starts = left c (λ v. 1 ≤ v.earliest) b.starts;
+      holds = left c (λ v. v.earliest ≤ v.latest) b.holds;
+      ends = left c (λ v. v.latest ≤ b.last) b.ends;
+      timely = left c (λ v. v.latest ≤ v.due) b.timely;
+    }
 
 pub returns : goal.returns
 returns c =

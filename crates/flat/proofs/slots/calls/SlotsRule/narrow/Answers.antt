@@ -11,8 +11,11 @@ use Rattle.flat.specs.Tested.{fit_known, same_size_parts}
 use Rattle.flat.proofs.Slotted.{slots_cut}
 use Rattle.flat.proofs.slots.calls.SlotsRule.narrow.Goals as goal
 
-pub invariant-of-never-due : goal.invariant-of-never-due
-invariant-of-never-due c = (refl, ((λ k. repeated_most 32 64 k), tt))
+pub invariant_of-never_due : goal.invariant_of-never_due
+invariant_of-never_due c = record {
+  dated = refl;
+  soon = (λ k. repeated_most 32 64 k);
+}
 
 pub returns : goal.returns
 returns c =
@@ -24,5 +27,5 @@ returns c =
     let long : length ds ≡ n = length-take-le {A = ℕ} n (replicate 32 64) (omega (arith, s.few)) in
     let same = slots_cut n s.last (take s.last s.capacities) ds (set_of w) c.args.limit (held_proper w) (long ∙ sym (same_size_parts n s.last (length (set_of w).each) w.last fits).0)
     (λ k h. get_or-take {A = ℕ} n (replicate 32 64) k 0 (omega (arith, long)) ∙ get_or-replicate {A = ℕ} 32 k 64 0 (omega (arith, long, s.few))) in
-    narrowed_cut (slots_of s) c.args.limit w fits c.if-limit-gt-MAX-CHARGE.false c.cut.new.windows c.cut.result
+    narrowed_cut (slots_of s) c.args.limit w fits c.if-limit-gt-MAX_CHARGE.false c.cut.new.windows c.cut.result
     (subst (λ (o : Option WindowSet). CutTo o w c.cut.new.windows c.cut.result) same c.cut.ensures)
