@@ -9,7 +9,7 @@ use line::{Batch, Waits};
 fn next<E: Waits + Copy>(batches: &[Batch], placed: &[u8; 32], t: u8) -> Option<usize>
     requires few { length batches.now ≤ 32 }
     requires roomy { Roomy E.row }
-    ensures { MatchOption result ((k : ℕ) → k < length batches.now → Waiting batches.now placed.now t k → ⊥) (λ b. Next leads made batches.now placed.now t b) }
+    ensures { MatchOption result ((k : ℕ) → k < length batches.now → Waiting batches.now placed.now t k → ⊥) (λ b. Next E.leads E.made batches.now placed.now t b) }
 {
     let none = Batch {
         earliest: 0,
@@ -55,8 +55,8 @@ pub(crate) fn sweep<E: Waits + Copy>(
 ) -> Option<[u8; 32]>
     requires sound { Sound (length batches.now) last batches.now }
     requires roomy { Roomy E.row }
-    requires order { LatestFirst leads made batches.now }
-    ensures { MatchOption result (Impossible batches.now capacities.now last) (λ p. Best leads made batches.now capacities.now last p) }
+    requires order { LatestFirst E.leads E.made batches.now }
+    ensures { MatchOption result (Impossible batches.now capacities.now last) (λ p. Best E.leads E.made batches.now capacities.now last p) }
 {
     let mut placed = [0u8; 32];
     for t in (1..=last).rev() {
