@@ -11,7 +11,7 @@ returns-in_err-own c = record {
 pub returns-then-room-eq0 : goal.returns-then-room-eq0
 returns-then-room-eq0 c = record {
   back = refl;
-  least = absent_full c.args.batches.now c.args.capacities.now c.args.i c.args.v c.in_ok-own.own_val c.in_ok-own.ensures c.told-capacities c.if-room-eq0.true;
+  least = absent_full c.args.batches.now c.args.capacities.now c.args.i c.args.v c.in_ok-own.own c.in_ok-own.ensures c.told-capacities c.if-room-eq0.true;
 }
 
 pub returns-in_err-placed : goal.returns-in_err-placed
@@ -20,7 +20,7 @@ returns-in_err-placed c =
     let cs = c.args.capacities.now in
     let i = c.args.i in
     let v = c.args.v in
-    let o = c.in_ok-own.own_val in
+    let o = c.in_ok-own.own in
     let g = c.in_ok-own.ensures in
     record {
       back = c.drop-guard.ensures ∙ returned b cs i v o g c.told-capacities (omega (arith, c.if-room-eq0.false));
@@ -33,7 +33,7 @@ returns c =
     let cs = c.args.capacities.now in
     let i = c.args.i in
     let v = c.args.v in
-    let o = c.in_ok-own.own_val in
+    let o = c.in_ok-own.own in
     let g = c.in_ok-own.ensures in
     record {
       back = c.drop-guard-2.ensures ∙ returned b cs i v o g c.told-capacities (omega (arith, c.if-room-eq0.false));

@@ -4,7 +4,7 @@ use Rattle.windows.proofs.Held.{held_proper}
 use Rattle.rated.specs.Measures.{Affords, First}
 use Rattle.rated.proofs.Scanned.{none_below, affords_told, denies_told, none_found, first_found}
 use Rattle.rated.proofs.scan.first_affordable.Goals as goal
-use Rattle.rated.proofs.scan.first_affordable.Goals.{else-loop-early-test, then-loop-early-test+else-affords+else·-early-latest}
+use Rattle.rated.proofs.scan.first_affordable.Goals.{else-loop-early-test, then-loop-early-test+else-affords+else-early-latest}
 
 pub batches-preserved : goal.batches-preserved
 batches-preserved c =
@@ -48,5 +48,5 @@ returns-in-batches c =
     let one : i < length (set_of w).each = omega (arith, c.batches-test.true, c.batches-i-end.ensures) in
     none_found w i c.in_ok-earliest.earliest c.in_ok-earliest.latest c.in_ok-earliest.ensures one b table c.args.limit (λ u lo hi. elim c.loop-early-test.branch [
       | else-loop-early-test t ↦ c.loop-early.invariant.2 u lo (omega (arith, t.loop-early-test.false))
-      | then-loop-early-test+else-affords+else·-early-latest t ↦ none_below (Affords b table c.args.limit i) c.in_ok-earliest.earliest v c.loop-early.invariant.2 (denies_told b c.loop-early.capacities table c.args.limit i v c.loop-early.invariant.0 t.if-affords.ensures.told) u lo (omega (arith, t))
+      | then-loop-early-test+else-affords+else-early-latest t ↦ none_below (Affords b table c.args.limit i) c.in_ok-earliest.earliest v c.loop-early.invariant.2 (denies_told b c.loop-early.capacities table c.args.limit i v c.loop-early.invariant.0 t.if-affords.ensures.told) u lo (omega (arith, t))
     ])

@@ -4,7 +4,7 @@ use Rattle.windows.proofs.Held.{held_proper}
 use Rattle.rated.specs.Measures.{Affords, Final}
 use Rattle.rated.proofs.Scanned.{none_above, affords_told, denies_told, none_found, final_found}
 use Rattle.rated.proofs.scan.last_affordable.Goals as goal
-use Rattle.rated.proofs.scan.last_affordable.Goals.{else-loop-late-test, then-loop-late-test+else-affords+else·-earliest-late}
+use Rattle.rated.proofs.scan.last_affordable.Goals.{else-loop-late-test, then-loop-late-test+else-affords+else-earliest-late}
 
 pub batches-preserved : goal.batches-preserved
 batches-preserved c =
@@ -48,5 +48,5 @@ returns-in-batches c =
     let one : i < length (set_of w).each = omega (arith, c.batches-test.true, c.batches-i-end.ensures) in
     none_found w i c.in_ok-earliest.earliest c.in_ok-earliest.latest c.in_ok-earliest.ensures one b table c.args.limit (λ u lo hi. elim c.loop-late-test.branch [
       | else-loop-late-test t ↦ c.loop-late.invariant.2 u (omega (arith, t.loop-late-test.false)) hi
-      | then-loop-late-test+else-affords+else·-earliest-late t ↦ none_above (Affords b table c.args.limit i) c.in_ok-earliest.latest v c.loop-late.invariant.2 (denies_told b c.loop-late.capacities table c.args.limit i v c.loop-late.invariant.0 t.if-affords.ensures.told) u (omega (arith, t)) hi
+      | then-loop-late-test+else-affords+else-earliest-late t ↦ none_above (Affords b table c.args.limit i) c.in_ok-earliest.latest v c.loop-late.invariant.2 (denies_told b c.loop-late.capacities table c.args.limit i v c.loop-late.invariant.0 t.if-affords.ensures.told) u (omega (arith, t)) hi
     ])
