@@ -18,7 +18,7 @@ loop-k-preserved c =
     let text = c.args.text.now in
     let rest = hex_bytes (drop (2 * (c.loop-k.k + 1)) text) in
     stands text (vec_items c.loop-k.bytes) c.loop-k.k (Some c.in-Some.byte) c.loop-k-test.true c.in-Some.ensures c.loop-k.invariant
-    ∙ one_byte (vec_items c.loop-k.bytes) c.in-Some.byte rest ∙ ap (λ (xs : List ℕ). after xs rest) (sym c.in_ok-push.ensures.items)
+    ∙ one_byte (vec_items c.loop-k.bytes) c.in-Some.byte rest ∙ ap (λ (xs : List ℕ). after xs rest) (sym c.in_ok-push-in-Some.ensures.items)
 
 pub returns : goal.returns
 returns c = sym (c.loop-k.invariant ∙ all_read c.args.text.now (vec_items c.loop-k.bytes) c.loop-k.k (omega arith))

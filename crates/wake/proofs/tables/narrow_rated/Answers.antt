@@ -1,4 +1,4 @@
-use Rattle.std.proofs.Common.{◌≡◌, ℕ, ◌-◌, ◌*◌, true, not, ◌&&◌, ◌||◌, eqb, [], ◌∷◌, length, take, sym, refl, ap, ◌∙◌, arith}
+use Rattle.std.proofs.Common.{◌≡◌, ℕ, ◌-◌, ◌*◌, Bool, not, ◌&&◌, ◌||◌, eqb, List, [], ◌∷◌, length, take, sym, refl, ap, ◌∙◌, arith}
 use Rattle.std.proofs.lemmas.List.FromFn.{length-map-range_with_len}
 use Rattle.std.proofs.lemmas.Bool.{and_from, eq-eqb}
 use Rattle.windows.specs.Refusals.{number, struck}
@@ -18,9 +18,14 @@ use Rattle.wake.proofs.tables.narrow_rated.Goals.{After-fill}
 paired-rates : (c : After-fill) → take (c.args.batches - 0) c.rate_table-table.result ≡ pairs c.args.batches c.args.rates.now
 paired-rates c = let z : c.args.batches - 0 ≡ c.args.batches = omega arith in ap (λ (k : ℕ). take k c.rate_table-table.result) z ∙ c.rate_table-table.ensures.front
 
+-- The checks of the call up to those of the windows.
+abbrev first_checks : ℕ → ℕ → List ℕ → List ℕ → List ℕ → List ℕ → List ℕ → List (ℕ × Bool)
+first_checks n T es ls cs ds bytes =
+    (3, out_of_size n T) ∷ ((4, not (((eqb (length es) n && eqb (length ls) n) && eqb (length bytes) (2 * n)) && (eqb (length cs) T && eqb (length ds) n))) ∷ ((5, outside 0 32 cs || (outside 1 T ds || outside 0 max_rate (pairs n bytes))) ∷ []))
+
 -- The other tables have the right lengths, so the checks of the fill are the first of the call.
 judged : (c : After-fill) → struck (rated_checks c.args.batches c.args.periods c.args.capacities.now c.args.dues.now (take (c.args.batches - 0) c.rate_table-table.result))
-    ≡ struck ((3, out_of_size c.args.batches c.args.periods) ∷ ((4, not (((eqb (length c.args.earliest.now) c.args.batches && eqb (length c.args.latest.now) c.args.batches) && eqb (length c.args.rates.now) (2 * c.args.batches)) && (eqb (length c.args.capacities.now) c.args.periods && eqb (length c.args.dues.now) c.args.batches))) ∷ ((5, outside 0 32 c.args.capacities.now || (outside 1 c.args.periods c.args.dues.now || outside 0 max_rate (pairs c.args.batches c.args.rates.now))) ∷ [])))
+    ≡ struck (first_checks c.args.batches c.args.periods c.args.earliest.now c.args.latest.now c.args.capacities.now c.args.dues.now c.args.rates.now)
 judged c =
     let n = c.args.batches in
     rated_same n c.args.periods c.args.capacities.now c.args.dues.now _
@@ -29,7 +34,7 @@ judged c =
 
 pub returns-in-Err : goal.returns-in-Err
 returns-in-Err c =
-    (struck_first _ (window_checks (rated c.args.batches c.args.periods c.args.capacities.now c.args.dues.now (pairs c.args.batches c.args.rates.now)) c.args.periods c.args.earliest.now c.args.latest.now c.args.limit) (number c.in-Err.refusal) (numbered c.in-Err.refusal) (sym (judged (goal.at.returns-in-Err c).After-fill) ∙ c.in-Err.ensures.0), refl, refl)
+    (struck_first (first_checks c.args.batches c.args.periods c.args.earliest.now c.args.latest.now c.args.capacities.now c.args.dues.now c.args.rates.now) (window_checks (rated c.args.batches c.args.periods c.args.capacities.now c.args.dues.now (pairs c.args.batches c.args.rates.now)) c.args.periods c.args.earliest.now c.args.latest.now c.args.limit) (number c.in-Err.refusal) (numbered c.in-Err.refusal) (sym (judged (goal.at.returns-in-Err c).After-fill) ∙ c.in-Err.ensures.0), refl, refl)
 
 pub narrow_windows-requires : goal.narrow_windows-requires
 narrow_windows-requires c =
