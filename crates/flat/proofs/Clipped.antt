@@ -8,7 +8,7 @@ use Rattle.windows.specs.Schedules.{count}
 use Rattle.windows.specs.Hulls.{Passes}
 use Rattle.line.specs.declared.batch.Batch.{Batch}
 use Rattle.sweep.specs.Charges.{at, Fits, charge}
-use Rattle.flat.specs.Tests.{same_size, within, waited}
+use Rattle.flat.specs.Tests.{same_size, waited}
 use Rattle.flat.specs.Rules.{flat_allows, flat_within}
 use Rattle.flat.specs.Ends.{clipped}
 use Rattle.flat.specs.Tested.{within_at, within_from, on_time_at, on_time_from, allowed, allows, same_size_parts}

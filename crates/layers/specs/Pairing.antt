@@ -1,5 +1,5 @@
--- A pair of lawful rules keeps the laws of a rule, and its rounds settle.
-use Rattle.std.specs.Prelude.{◌≡◌, ℕ, suc, ◌+◌, ◌-◌, ◌<◌, ◌≤◌, true, ◌&&◌, List, length, Some, None, ◌≢◌, nat_le, slice_index, refl}
+-- A pair of lawful rules keeps the laws of a rule.
+use Rattle.std.specs.Prelude.{◌≡◌, ℕ, suc, ◌+◌, ◌-◌, ◌<◌, ◌≤◌, true, ◌&&◌, List, length, Some, None, nat_le, slice_index, refl}
 use Rattle.std.proofs.Common.{sym, ap, subst, ◌∙◌, ⊎_elim, arith}
 use Rattle.std.proofs.lemmas.Bool.{leb-true, le-leb, and_parts, and_from, and_cases, cond-true}
 use Rattle.std.proofs.lemmas.Bool.Decides.{nat_tests}
@@ -7,8 +7,7 @@ use Rattle.windows.specs.WindowSets.{WindowSet, Lies, Inside, Single, Proper, ea
 use Rattle.rule.specs.Meaning.{Meaning, Lawful, max_charge}
 use Rattle.rule.specs.Narrowing.{fitting}
 use Rattle.layers.specs.Layers.{less, beside, round, slack, pair}
-use Rattle.layers.specs.Laws.{RoundsSettle}
-use Rattle.layers.specs.Rounding.{Keeps, Answers, Within, then_some, then_keeps, then_answers, rounds_keep, rounds_answer, rounds_same, settles, goes_on}
+use Rattle.layers.specs.Rounding.{Keeps, Answers, Within, then_some, then_keeps, then_answers, rounds_keep, rounds_answer}
 
 within_self : (w : WindowSet) → Proper w → Within w w
 within_self w p = record { same_periods = refl; inside = record { same_size = refl; not_before = λ k h. omega arith; not_after = λ k h. omega arith }; proper = p }
@@ -29,7 +28,7 @@ within_trans w v u p q =
     }
 
 -- A rule fits narrowed windows as it fitted them before.
-fit_within : (m : Meaning) (w v : WindowSet) → Within w v → fitting m w ≡ true → fitting m v ≡ true
+pub fit_within : (m : Meaning) (w v : WindowSet) → Within w v → fitting m w ≡ true → fitting m v ≡ true
 fit_within m w v q e = ap (λ (n : ℕ). m.fits n v.periods) q.inside.same_size ∙ ap (m.fits (length w.each)) q.same_periods ∙ e
 
 -- Windows inside ones of one period each are the same.
@@ -86,7 +85,7 @@ module _ (a b : Meaning) (la : Lawful a) (lb : Lawful b) (limit : ℕ) (capped :
 
 -- One round, and so the rounds.
 module _ (a b : Meaning) (la : Lawful a) (lb : Lawful b) (limit : ℕ) (capped : limit ≤ max_charge) where
-  round_within : (w v : WindowSet) → Proper w → round a b limit w ≡ Some v → Within w v
+  pub round_within : (w v : WindowSet) → Proper w → round a b limit w ≡ Some v → Within w v
   round_within w v p e =
       let t = then_some (beside a b limit w) (beside b a limit) v e in
       let q = beside_within a b la lb limit capped w t.0 p t.1 in
@@ -113,24 +112,6 @@ module _ (a b : Meaning) (la : Lawful a) (lb : Lawful b) (limit : ℕ) (capped :
       let f : a.floor u ≡ a.charge w.periods x = la.floor_single u x q.proper o (subst (λ (T : ℕ). a.allows T x ≡ true) (sym q.same_periods) l.0) ∙ ap (λ (T : ℕ). a.charge T x) q.same_periods in
       let c : b.charge w.periods x ≤ limit - a.floor u = subst (λ (T : ℕ). b.charge T x ≤ limit - a.floor u) q.same_periods r.1 in
       (l.0, subst (λ (T : ℕ). b.allows T x ≡ true) q.same_periods r.0, omega (arith, second.0))
-
-pub rounds_settle : RoundsSettle
-rounds_settle a b la lb limit k w p c h = rounds_same (round a b limit) (round_within a b la lb limit c) k (suc (slack w.each)) w p (omega arith) (omega arith)
-
--- The windows after some rounds: the rule fits them, and their cut is that of the windows at the start.
-pub record SoFar (m : Meaning) (limit : ℕ) (start w : WindowSet) : Type 0 where
-  pub fits : fitting m w ≡ true
-  pub same_cut : m.cut w limit ≡ m.cut start limit
-
--- A round that leads from w to v: it is the last, or there is another.
-module _ (a b : Meaning) (la : Lawful a) (lb : Lawful b) (limit : ℕ) (capped : limit ≤ max_charge) (start w v : WindowSet) (so : SoFar (pair a b) limit start w) (p : Proper w) (e : Some v ≡ round a b limit w) where
-  pub settled : slack v.each ≡ slack w.each → Some v ≡ (pair a b).cut start limit
-  settled s = sym (settles (round a b limit) (round_within a b la lb limit capped) (slack w.each) w v p (sym e) s) ∙ so.same_cut
-
-  pub onward : (slack v.each ≢ slack w.each) → (slack v.each < slack w.each) × SoFar (pair a b) limit start v
-  onward s =
-      let o = goes_on (round a b limit) (round_within a b la lb limit capped) w v p (sym e) s in
-      (o.0, record { fits = fit_within (pair a b) w v (round_within a b la lb limit capped w v p (sym e)) so.fits; same_cut = sym o.1 ∙ so.same_cut })
 
 -- What a pair allows.
 record Both (a b : Meaning) (T : ℕ) (x : List ℕ) : Type 0 where

@@ -1,11 +1,11 @@
 -- A search with a limited number of steps is a search by calls, so the law of every run holds of what it comes to.
-use Rattle.std.proofs.Common.{◌≡◌, ℕ, zero, suc, ◌+◌, ◌*◌, ◌<◌, ◌≤◌, Bool, true, false, cond, ◌≢◌, List, [], ◌∷◌, Some, None, Option, sym, refl, ap, ◌∙◌, subst, ⊎_elim, arith}
+use Rattle.std.proofs.Common.{◌≡◌, ℕ, zero, suc, ◌+◌, true, false, cond, ◌≢◌, List, [], ◌∷◌, Some, None, Option, sym, refl, ap, ◌∙◌, subst, ⊎_elim, arith}
 use Rattle.std.proofs.lemmas.Bool.{cond-true, cases_Bool, both_ways, eq-eqb}
 use Rattle.windows.specs.WindowSets.{WindowSet, Proper}
 use Rattle.rule.specs.Meaning.{Meaning, Lawful}
 use Rattle.runs.specs.declared.phase.Phase.{Phase}
 use Rattle.runs.specs.declared.phase.Phase.TheVariants.{Idle, Running, Done}
-use Rattle.runs.specs.Run.{State, Call, «open», step, fresh, is_idle, is_done, refusal, accepted, next, after}
+use Rattle.runs.specs.Run.{Call, «open», step, is_idle, is_done, refusal, accepted, after}
 use Rattle.runs.specs.Law.{Standing, standing, steps, opens, product, windows_of, NothingLost, BestAtEnd, Given}
 use Rattle.runs.proofs.Runs.{every_run}
 use Rattle.listing.specs.Running.{steps_until_done, searched, Ended}

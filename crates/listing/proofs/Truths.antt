@@ -1,5 +1,5 @@
 -- What a listing says is true.
-use Rattle.std.proofs.Common.{◌≡◌, ℕ, ◌*◌, ◌<◌, ◌≤◌, Bool, true, false, cond, eqb, List, [], ◌∷◌, ◌++◌, length, get_or, Some, None, Option, sym, refl, ap, ◌∙◌, subst, ⊎_elim, arith}
+use Rattle.std.proofs.Common.{◌≡◌, ℕ, ◌*◌, ◌<◌, ◌≤◌, Bool, true, false, cond, eqb, List, [], length, Some, None, Option, sym, refl, ap, ◌∙◌, subst, arith}
 use Rattle.std.proofs.lemmas.List.FromFn.{length-map-range_with_len}
 use Rattle.std.proofs.lemmas.Bool.{cond-true, cond-false, eq-eqb, ne_eqb, le-leb, and_from}
 use Rattle.windows.specs.declared.refusal.Refusal.{Refusal}
@@ -15,7 +15,7 @@ use Rattle.runs.specs.Law.{opens, Contends, BestAtEnd, NothingLost, product}
 use Rattle.sheet.specs.Layout.{batch_count, period_count, cap_told, earliest_periods, latest_periods, sheet_windows, sheet_rule}
 use Rattle.sheet.specs.Checks.{sheet_refusal}
 use Rattle.sheet.proofs.Frames.{accepted_limits}
-use Rattle.report.specs.Texts.{plan_text, none_text, stopped_line, refused_text, done_text, stopped_text, state_text, Small, SmallIfAny}
+use Rattle.report.specs.Texts.{plan_text, refused_text, done_text, stopped_text, state_text, SmallIfAny}
 use Rattle.report.proofs.Readings.{one_reading, stopped_text_one}
 use Rattle.listing.specs.Running.{searched, searched_text, Ended}
 use Rattle.listing.specs.Listing.{max_steps, sheet_standing, sheet_state, listing_text, Charged, Truthful, Told}

@@ -9,8 +9,6 @@ use Rattle.rated.specs.declared.rated.Rated.{Rated}
 use Rattle.rated.specs.Loading.{rated_of}
 use Rattle.reload.specs.declared.reload.Reload.{Reload}
 use Rattle.reload.specs.Loading.{reload_of}
-use Rattle.layers.specs.declared.pair.Pair.{Pair}
-use Rattle.layers.specs.declared.weighted.Weighted.{Weighted}
 use Rattle.layers.specs.Layers.{pair, weighted}
 use Rattle.sheet.specs.declared.head.Head.{Head}
 use Rattle.sheet.specs.declared.section.Section.{Section}

@@ -1,12 +1,12 @@
 -- Windows of two tables, filled and narrowed.
-use Rattle.std.proofs.Common.{◌≡◌, ℕ, ◌≤◌, Bool, true, false, cond, not, ◌&&◌, ◌||◌, eqb, ltb, List, [], ◌∷◌, length, Some, None, Ok, Err, Option, Result, sym, refl, ap, ◌∙◌, subst, arith}
+use Rattle.std.proofs.Common.{◌≡◌, ℕ, ◌≤◌, Bool, true, false, cond, not, ◌&&◌, ◌||◌, eqb, ltb, List, [], ◌∷◌, length, Some, Ok, Err, Result, sym, refl, ap, ◌∙◌, subst, arith}
 use Rattle.std.proofs.lemmas.Bool.{cond-true, cond-false, and_from, eq-eqb}
 use Rattle.std.proofs.lemmas.Bool.Decides.{nat_tests}
 use Rattle.windows.specs.declared.refusal.Refusal.{Refusal}
 use Rattle.windows.specs.declared.windows.Windows.{Windows}
 use Rattle.windows.specs.Refusals.{number, struck}
 use Rattle.windows.specs.WindowSets.{WindowSet}
-use Rattle.windows.specs.Filling.{set_of, paired, out_of_size, some_bad, fill_checks}
+use Rattle.windows.specs.Filling.{set_of, out_of_size, some_bad, fill_checks}
 use Rattle.windows.proofs.Fills.{length_paired}
 use Rattle.windows.proofs.Held.{held_proper}
 use Rattle.rule.specs.Meaning.{Meaning, Lawful, max_charge}

@@ -7,7 +7,6 @@ use Rattle.rule.specs.Meaning.{Meaning}
 use Rattle.rule.specs.Narrowing.{narrow_checks}
 use Rattle.flat.specs.Rules.{slots, flat}
 use Rattle.rated.specs.Rates.{rated}
-use Rattle.runs.specs.declared.phase.Phase.{Phase}
 use Rattle.runs.specs.declared.phase.Phase.TheVariants.{Running, Done}
 use Rattle.runs.specs.Run.{Plan, State, Call, «open», step, tighten, checks, after}
 

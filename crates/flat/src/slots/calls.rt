@@ -30,7 +30,8 @@ fn fill_refusal(batches: usize, periods: usize, capacities: &[u8]) -> Option<Ref
 impl Slots {
     // No batches, and one period of capacity 0.
     pub fn new() -> Slots
-        ensures { slots_of result ≡ slots 0 1 (0 ∷ []) }
+        ensures means { slots_of result ≡ slots 0 1 (0 ∷ []) }
+        ensures room { take result.last result.capacities ≡ 0 ∷ [] }
     {
         Slots {
             count: 0,

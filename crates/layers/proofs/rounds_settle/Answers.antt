@@ -1,4 +1,4 @@
-use Rattle.layers.specs.Pairing.{rounds_settle}
+use Rattle.layers.proofs.Settling.{rounds_settle}
 use Rattle.layers.proofs.rounds_settle.Goals as goal
 
 pub returns : goal.returns

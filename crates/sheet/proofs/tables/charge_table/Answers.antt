@@ -1,4 +1,4 @@
-use Rattle.std.proofs.Common.{ℕ, ◌+◌, ◌*◌, ◌≤◌, arith}
+use Rattle.std.proofs.Common.{ℕ, ◌*◌, arith}
 use Rattle.reload.specs.Tables.{square_most}
 use Rattle.sheet.specs.Layout.{word}
 use Rattle.sheet.proofs.Fronts.{front_is, entry_more}

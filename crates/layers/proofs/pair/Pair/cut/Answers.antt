@@ -2,7 +2,7 @@ use Rattle.std.proofs.Common.{◌<◌, arith}
 use Rattle.windows.specs.Filling.{set_of}
 use Rattle.windows.proofs.Held.{held_proper}
 use Rattle.layers.specs.Layers.{slack, pair}
-use Rattle.layers.specs.Pairing.{SoFar, settled, onward}
+use Rattle.layers.proofs.Settling.{SoFar, settled, onward}
 use Rattle.layers.proofs.pair.Pair.cut.Given as given
 use Rattle.layers.proofs.pair.Pair.cut.Goals as goal
 

@@ -1,6 +1,6 @@
 use Rattle.windows.specs.Filling.{set_of}
 use Rattle.layers.specs.Layers.{pair, slack}
-use Rattle.layers.specs.Pairing.{SoFar}
+use Rattle.layers.proofs.Settling.{SoFar}
 use Rattle.layers.proofs.pair.Pair.cut.Given as goal
 
 abbrev pub invariant-rounds : goal.invariant-rounds
