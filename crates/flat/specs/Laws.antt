@@ -1,7 +1,8 @@
 -- Slots and Flat keep the laws of a rule.
-use Rattle.std.specs.Prelude.{◌≡◌, ℕ, ◌<◌, ◌≤◌, Bool, true, false, cond, List, map, length, Some, None, Option, nat_le, slice_index, refl}
+use Rattle.std.specs.Prelude.{◌≡◌, ℕ, ◌<◌, ◌≤◌, Bool, true, false, cond, List, map, length, take, Some, None, Option, nat_le, slice_index, refl}
 use Rattle.std.proofs.Common.{ap, subst, arith}
 use Rattle.std.proofs.lemmas.Bool.{leb-true, le-leb, both_ways, cond-true, cond-false, and_parts, and_from}
+use Rattle.std.proofs.lemmas.List.{length-take-le, get_or-take}
 use Rattle.windows.specs.declared.window.Window.{Window}
 use Rattle.windows.specs.WindowSets.{WindowSet, Lies, Single}
 use Rattle.windows.specs.Schedules.{kept, schedules, least}
@@ -60,6 +61,12 @@ slots_lawful n T cs =
 
 pub flat_unfit : (n T : ℕ) (cs ds : List ℕ) (w : WindowSet) (x : List ℕ) → same_size n T (length w.each) w.periods ≡ false → Passes (flat_allows n T cs ds w.periods) w.each x → ⊥
 flat_unfit n T cs ds w x e h = both_ways (same_size n T (length w.each) w.periods) e (fit_of n T w.periods x w.each h.0.same_size (allowed n T cs ds w.periods x h.1).fits)
+
+-- A bound on every entry of a table is one on the entries at its front.
+pub front_bounded : (n m b : ℕ) (vs : List ℕ) → length vs ≡ m → n ≤ m → ((k : ℕ) → slice_index vs k ≤ b) → (k : ℕ) → k < length (take n vs) → slice_index (take n vs) k ≤ b
+front_bounded n m b vs long some most k h =
+    let front : length (take n vs) ≡ n = length-take-le n vs (omega arith) in
+    omega (arith, get_or-take n vs k 0 (omega arith), most k)
 
 pub flat_lawful : (n T : ℕ) (cs ds : List ℕ) → n ≤ 32 → ((k : ℕ) → k < length ds → slice_index ds k ≤ 64) → Lawful (flat n T cs ds)
 flat_lawful n T cs ds few soon =

@@ -1,5 +1,5 @@
 -- Rated keeps the laws of a rule.
-use Rattle.std.specs.Prelude.{◌≡◌, ℕ, ◌<◌, ◌≤◌, true, ◌⊎◌, List, [], ◌∷◌, length, Some, None, Option, ◌≢◌, slice_index, slice_index_or, slice_set, refl}
+use Rattle.std.specs.Prelude.{◌≡◌, ℕ, ◌<◌, ◌≤◌, true, false, ◌⊎◌, List, [], ◌∷◌, length, Some, None, Option, ◌≢◌, slice_index, slice_index_or, slice_set, refl}
 use Rattle.std.proofs.Common.{sym, ap, subst, ◌∙◌, inl, inr, arith}
 use Rattle.std.proofs.lemmas.Bool.{leb-true, le-leb, cond-true, cond-false, cond_both, false≢true}
 use Rattle.windows.specs.declared.window.Window.{Window}
@@ -11,6 +11,8 @@ use Rattle.windows.proofs.Members.{kept_in, kept_out, periods_in_in, periods_in_
 use Rattle.windows.proofs.Hulls.{not_some}
 use Rattle.windows.proofs.Enumerated.{lies_single, enumerated_inside, enumerated_keeps, enumerated_none, enumerated_single, cheapest_some, cheapest_none}
 use Rattle.rule.specs.Meaning.{Lawful, max_charge}
+use Rattle.rule.specs.Tables.{outside}
+use Rattle.rule.proofs.Entries.{each_inside}
 use Rattle.flat.specs.Tests.{same_size, within, on_time}
 use Rattle.flat.specs.Rules.{or_max, flat_allows}
 use Rattle.flat.specs.Tested.{allowed, same_size_parts, on_time_at}
@@ -173,6 +175,10 @@ module _ (n T : ℕ) (cs ds rs : List ℕ) where
     unfolding hulled
     refused (inl g) = enumerated_none (flat_allows n T cs ds w.periods) w.periods w.each x g (l, a)
     refused (inr g) = measured_none cs ds rs g.0.each limit x (stay g.0 g.1) g.2
+
+-- Due periods from 1 to T are at most 64.
+pub timely_bounded : (T : ℕ) (ds : List ℕ) → T ≤ 64 → outside 1 T ds ≡ false → (k : ℕ) → k < length ds → slice_index ds k ≤ 64
+timely_bounded T ds most timely k h = omega (arith, each_inside 1 T ds timely k h)
 
 pub rated_lawful : (n T : ℕ) (cs ds rs : List ℕ) → n ≤ 32 → ((k : ℕ) → k < length ds → slice_index ds k ≤ 64) → ((k : ℕ) → k < length rs → slice_index rs k ≤ 1000000) → Lawful (rated n T cs ds rs)
 unfolding hulled

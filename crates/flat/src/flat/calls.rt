@@ -6,9 +6,7 @@ ghost use Rattle.rule.specs.Narrowing.{Loaded, CutTo};
 ghost use Rattle.flat.specs.Rules.{flat};
 ghost use Rattle.flat.specs.Loading.{flat_of, flat_checks};
 ghost use Rattle.flat.specs.Ends.{Clips, NothingAllowed};
-ghost use Rattle.std.proofs.Common.{arith};
-ghost use Rattle.std.proofs.lemmas.List.{length-take-le, get_or-take};
-ghost use Rattle.flat.specs.Laws.{flat_lawful};
+ghost use Rattle.flat.specs.Laws.{front_bounded, flat_lawful};
 
 use crate::ends::ends_within;
 use crate::flat::Flat;
@@ -128,10 +126,7 @@ impl Flat {
 impl Rule for Flat {
     ghost meaning = { flat_of };
 
-    ghost lawful = { λ f.
-        let n = f.slots.count in
-        let long : length (take n f.dues) ≡ n = length-take-le n f.dues (omega (arith, f.dated, f.slots.few)) in
-        flat_lawful n f.slots.last (take f.slots.last f.slots.capacities) (take n f.dues) f.slots.few (λ k h. omega (arith, get_or-take n f.dues k 0 (omega arith), f.soon k)) };
+    ghost lawful = { λ f. flat_lawful f.slots.count f.slots.last (take f.slots.last f.slots.capacities) (take f.slots.count f.dues) f.slots.few (front_bounded f.slots.count 32 64 f.dues f.dated f.slots.few f.soon) };
 
     fn fits(&self, batches: usize, periods: usize) -> bool {
         batches == self.slots.count as usize && periods == self.slots.last as usize

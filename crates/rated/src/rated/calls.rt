@@ -8,10 +8,8 @@ ghost use Rattle.flat.specs.Loading.{flat_of};
 ghost use Rattle.rated.specs.Rates.{rated};
 ghost use Rattle.rated.specs.Loading.{max_rate, rated_of, rated_checks};
 ghost use Rattle.rated.specs.Measures.{Prices, NothingFits};
-ghost use Rattle.std.proofs.Common.{arith};
-ghost use Rattle.std.proofs.lemmas.List.{length-take-le, get_or-take};
-ghost use Rattle.rule.proofs.Entries.{each_inside};
-ghost use Rattle.rated.specs.Laws.{rated_lawful};
+ghost use Rattle.flat.specs.Laws.{front_bounded};
+ghost use Rattle.rated.specs.Laws.{timely_bounded, rated_lawful};
 
 use crate::rated::Rated;
 use crate::scan::{first_affordable, last_affordable};
@@ -165,13 +163,7 @@ impl Rated {
 impl Rule for Rated {
     ghost meaning = { rated_of };
 
-    ghost lawful = { λ r.
-        let n = r.count in
-        let few = r.few in
-        let long : length (take n r.rates) ≡ n = length-take-le n r.rates (omega (arith, r.priced)) in
-        rated_lawful n r.last (take r.last r.capacities) (take n r.dues) (take n r.rates) few
-        (λ k h. omega (arith, r.most, each_inside 1 r.last (take n r.dues) r.timely k h))
-        (λ k h. omega (arith, get_or-take n r.rates k 0 (omega arith), r.cheap k)) };
+    ghost lawful = { λ r. rated_lawful r.count r.last (take r.last r.capacities) (take r.count r.dues) (take r.count r.rates) r.few (timely_bounded r.last (take r.count r.dues) r.most r.timely) (front_bounded r.count 32 1000000 r.rates r.priced r.few r.cheap) };
 
     fn fits(&self, batches: usize, periods: usize) -> bool {
         batches == self.count as usize && periods == self.last as usize
