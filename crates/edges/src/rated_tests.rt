@@ -1,6 +1,6 @@
 use rated::Rated;
 use rule::Rule;
-use windows::{Refusal, Windows};
+use windows::{Refusal, Size, Windows};
 
 // The number of a refusal, or 0.
 fn refusal(answer: Result<(), Refusal>) -> u8 {
@@ -16,11 +16,11 @@ fn a_dear_period_does_not_pull_the_latest_in(rt: HostRuntime) {
     let dues = [4, 3, 3, 4];
     let mut rule = Rated::new();
     assert_eq!(rt;
-        refusal(rule.fill(4, 4, &[1; 4], &dues, &[1, 10, 20, 2])),
+        refusal(rule.fill(Size::new(4, 4), &[1; 4], &dues, &[1, 10, 20, 2])),
         0
     );
     let mut windows = Windows::new();
-    assert_eq!(rt; refusal(windows.fill(4, 4, &[1; 4], &dues)), 0);
+    assert_eq!(rt; refusal(windows.fill(Size::new(4, 4), &[1; 4], &dues)), 0);
     assert_eq!(rt; refusal(rule.narrow(&mut windows, 20)), 0);
     assert_eq!(rt; windows.window(1), Some((1, 4)));
     assert_eq!(rt; windows.window(2), Some((2, 2)));
@@ -34,20 +34,26 @@ fn six_batches_cost_at_least_16(rt: HostRuntime) {
     let dues = [4, 5, 4, 5, 8, 8];
     let mut rule = Rated::new();
     assert_eq!(rt;
-        refusal(rule.fill(6, 8, &capacities, &dues, &[3, 10, 4, 2, 2, 4])),
+        refusal(rule.fill(Size::new(6, 8), &capacities, &dues, &[3, 10, 4, 2, 2, 4])),
         0
     );
     let mut windows = Windows::new();
-    assert_eq!(rt; refusal(windows.fill(6, 8, &[1; 6], &dues)), 0);
+    assert_eq!(rt; refusal(windows.fill(Size::new(6, 8), &[1; 6], &dues)), 0);
     assert_eq!(rt; rule.floor(&windows), 16);
 }
 
 #[test]
 fn a_rate_is_at_most_10000(rt: HostRuntime) {
     let mut rule = Rated::new();
-    assert_eq!(rt; refusal(rule.fill(1, 2, &[1, 1], &[2], &[10_000])), 0);
-    assert_eq!(rt; refusal(rule.fill(1, 2, &[1, 1], &[2], &[10_001])), 5);
+    assert_eq!(rt;
+        refusal(rule.fill(Size::new(1, 2), &[1, 1], &[2], &[10_000])),
+        0
+    );
+    assert_eq!(rt;
+        refusal(rule.fill(Size::new(1, 2), &[1, 1], &[2], &[10_001])),
+        5
+    );
     let mut windows = Windows::new();
-    assert_eq!(rt; refusal(windows.fill(1, 2, &[1], &[1])), 0);
+    assert_eq!(rt; refusal(windows.fill(Size::new(1, 2), &[1], &[1])), 0);
     assert_eq!(rt; rule.floor(&windows), 10_000);
 }

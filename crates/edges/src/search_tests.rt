@@ -2,14 +2,14 @@ use flat::{Flat, Slots};
 use search::{Call, Phase, Search, Step, replay};
 use std::mem::size_of;
 use std::test::Fail;
-use windows::{Refusal, Windows};
+use windows::{Refusal, Size, Windows};
 
 // Two batches in windows 1-2 that are due in period 2, one to a period.
 fn two_batches() -> Result<(Windows, Flat), Refusal> {
     let mut windows = Windows::new();
-    windows.fill(2, 2, &[1, 1], &[2, 2])?;
+    windows.fill(Size::new(2, 2), &[1, 1], &[2, 2])?;
     let mut flat = Flat::new();
-    flat.fill(2, 2, &[1, 1], &[2, 2])?;
+    flat.fill(Size::new(2, 2), &[1, 1], &[2, 2])?;
     Ok((windows, flat))
 }
 
@@ -66,9 +66,9 @@ fn no_batches_are_planned_in_one_step(rt: HostRuntime) {
 #[test]
 fn one_batch_of_64_periods_opens_7_parts(rt: HostRuntime) -> Result<(), Fail> {
     let mut windows = Windows::new();
-    windows.fill(1, 64, &[1], &[64])?;
+    windows.fill(Size::new(1, 64), &[1], &[64])?;
     let mut slots = Slots::new();
-    slots.fill(1, 64, &[1; 64])?;
+    slots.fill(Size::new(1, 64), &[1; 64])?;
     let mut search = Search::new(slots);
     assert_eq!(rt; search.open(&windows, 0), Ok(()));
     for parts in 2..8 {

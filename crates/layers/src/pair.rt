@@ -8,7 +8,7 @@ ghost use Rattle.layers.specs.Held.{set_in};
 ghost use Rattle.layers.specs.Pairing.{pair_lawful};
 
 use rule::{MAX_CHARGE, Rule};
-use windows::{Refusal, Windows};
+use windows::{Refusal, Size, Windows};
 
 // What both sides allow, at the sum of their charges.
 #[derive(Clone, Copy, Drop)]
@@ -88,8 +88,8 @@ impl<L: Rule, R: Rule> Rule for Pair<L, R> {
 
     ghost lawful = { λ p. pair_lawful (L.Rule.meaning p.left) (R.Rule.meaning p.right) (L.Rule.lawful p.left) (R.Rule.lawful p.right) };
 
-    fn fits(&self, batches: usize, periods: usize) -> bool {
-        self.left.fits(batches, periods) && self.right.fits(batches, periods)
+    fn fits(&self, size: Size) -> bool {
+        self.left.fits(size) && self.right.fits(size)
     }
 
     fn floor(&self, windows: &Windows) -> u64 {
@@ -97,7 +97,7 @@ impl<L: Rule, R: Rule> Rule for Pair<L, R> {
     }
 
     fn narrow(&self, windows: &mut Windows, limit: u64) -> Result<(), Refusal> {
-        if !self.fits(windows.batches(), windows.periods()) {
+        if !self.fits(windows.size()) {
             return Err(Refusal::Unfit);
         }
         if limit > MAX_CHARGE {

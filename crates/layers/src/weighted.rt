@@ -5,7 +5,7 @@ ghost use Rattle.layers.specs.Weighing.{weighted_lawful};
 
 use crate::weight::Weight;
 use rule::{MAX_CHARGE, Rule};
-use windows::{Refusal, Windows};
+use windows::{Refusal, Size, Windows};
 
 // What the rule below allows, at its charge times the weight.
 #[derive(Clone, Copy, Drop)]
@@ -28,8 +28,8 @@ impl<R: Rule> Rule for Weighted<R> {
 
     ghost lawful = { λ s. weighted_lawful s.weight.value s.weight.some (R.Rule.meaning s.rule) (R.Rule.lawful s.rule) };
 
-    fn fits(&self, batches: usize, periods: usize) -> bool {
-        self.rule.fits(batches, periods)
+    fn fits(&self, size: Size) -> bool {
+        self.rule.fits(size)
     }
 
     fn floor(&self, windows: &Windows) -> u64 {
@@ -37,7 +37,7 @@ impl<R: Rule> Rule for Weighted<R> {
     }
 
     fn narrow(&self, windows: &mut Windows, limit: u64) -> Result<(), Refusal> {
-        if !self.fits(windows.batches(), windows.periods()) {
+        if !self.fits(windows.size()) {
             return Err(Refusal::Unfit);
         }
         if limit > MAX_CHARGE {

@@ -1,4 +1,5 @@
 -- Reload keeps the laws of a rule.
+use Rattle.std.specs.List.{list_any}
 use Rattle.std.specs.Prelude.{◌≡◌, ℕ, ◌<◌, ◌≤◌, Bool, true, false, cond, not, ◌&&◌, ◌||◌, List, length, replicate, Some, None, nat_le, slice_index, refl}
 use Rattle.std.proofs.Common.{sym, ap, subst, ◌∙◌, ⊎_elim, arith}
 use Rattle.std.proofs.lemmas.Bool.{leb-true, le-leb, both_ways, cond-true, cond-false, cond_both, and_parts, and_from, or_parts, or_cases, not-true, not_from_false}
@@ -6,7 +7,6 @@ use Rattle.windows.specs.WindowSets.{WindowSet, Lies, Inside, Single, Proper}
 use Rattle.windows.proofs.Enumerated.{lies_single}
 use Rattle.windows.proofs.Hulls.{some_inj, not_some}
 use Rattle.rule.specs.Meaning.{Lawful, max_charge}
-use Rattle.rule.specs.Tables.{some}
 use Rattle.flat.specs.Tests.{same_size, within}
 use Rattle.flat.specs.Tested.{same_size_parts}
 use Rattle.reload.specs.Loads.{reloads_of}
@@ -32,7 +32,7 @@ module _ (n T K : ℕ) (ks q : List ℕ) (few : n ≤ 32) (most : T ≤ 64) (low
   fit w = same_size n T (length w.each) w.periods
 
   abbrev spread : WindowSet → Bool
-  spread w = some wide w.each
+  spread w = list_any wide w.each
 
   abbrev settled : WindowSet → Bool
   settled w = not (spread w) && reload_allows n T w.periods (places_of w.each)

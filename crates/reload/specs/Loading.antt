@@ -1,8 +1,9 @@
 -- What Reload was filled with, and the checks of its fill call.
+use Rattle.std.specs.List.{list_any}
 use Rattle.std.specs.Prelude.{ℕ, ◌*◌, Bool, not, ◌&&◌, ◌||◌, List, [], ◌∷◌, length, take, ◌==◌, nat_lt}
 use Rattle.windows.specs.Filling.{out_of_size}
 use Rattle.rule.specs.Meaning.{Meaning}
-use Rattle.rule.specs.Tables.{some, outside}
+use Rattle.rule.specs.Tables.{outside}
 use Rattle.reload.specs.declared.reload.Reload.{Reload}
 use Rattle.reload.specs.Loads.{out_of_kinds, some_own_charge}
 use Rattle.reload.specs.Rules.{reload}
@@ -16,4 +17,4 @@ abbrev pub reload_checks : ℕ → ℕ → ℕ → List ℕ → List ℕ → Lis
 reload_checks n T K ks q =
     (3, out_of_size n T || out_of_kinds K) ∷
     ((4, not (length ks == n && length q == K * K)) ∷
-    ((5, outside 1 K ks || (some (λ v. nat_lt 10000 v) q || some_own_charge K q)) ∷ []))
+    ((5, outside 1 K ks || (list_any (λ v. nat_lt 10000 v) q || some_own_charge K q)) ∷ []))

@@ -1,8 +1,8 @@
 -- What Reload means: n batches, T periods, K kinds, the kinds ks of the batches, the charges q.
+use Rattle.std.specs.List.{list_any}
 use Rattle.std.specs.Prelude.{ℕ, Bool, cond, not, ◌&&◌, ◌||◌, List, map, length, replicate, Some, None, ◌==◌, nat_le}
 use Rattle.windows.specs.declared.window.Window.{Window}
 use Rattle.rule.specs.Meaning.{Meaning, max_charge}
-use Rattle.rule.specs.Tables.{some}
 use Rattle.flat.specs.Tests.{same_size, within}
 use Rattle.reload.specs.Loads.{reloads_of}
 
@@ -30,6 +30,6 @@ reload n T K ks q = record {
   fits = same_size n T;
   allows = reload_allows n T;
   charge = reloads_of K ks q;
-  floor = λ w. cond (same_size n T (length w.each) w.periods) (cond (not (some wide w.each) && reload_allows n T w.periods (places_of w.each)) (reloads_of K ks q w.periods (places_of w.each)) 0) max_charge;
-  cut = λ w limit. cond (some wide w.each || reload_within n T K ks q w.periods limit (places_of w.each)) (Some w) None;
+  floor = λ w. cond (same_size n T (length w.each) w.periods) (cond (not (list_any wide w.each) && reload_allows n T w.periods (places_of w.each)) (reloads_of K ks q w.periods (places_of w.each)) 0) max_charge;
+  cut = λ w limit. cond (list_any wide w.each || reload_within n T K ks q w.periods limit (places_of w.each)) (Some w) None;
 }

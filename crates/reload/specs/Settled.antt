@@ -1,4 +1,5 @@
 -- Windows of one period each, and their one schedule.
+use Rattle.std.specs.List.{list_any}
 use Rattle.std.specs.Prelude.{◌≡◌, ℕ, ◌+◌, ◌-◌, ◌<◌, ◌≤◌, true, false, List, length, take, replicate, Some, None, ◌==◌, ◌≢◌, slice_index}
 use Rattle.std.proofs.Common.{sym, ap, ◌∙◌, ⊎_elim, arith}
 use Rattle.std.proofs.lemmas.List.{ext_get_or, length-map, get_or-map, length-take-le, get_or-take, length-replicate, get_or-replicate}
@@ -9,7 +10,6 @@ use Rattle.windows.specs.Schedules.{count}
 use Rattle.windows.specs.Filling.{window_asked}
 use Rattle.windows.proofs.Enumerated.{single_lies_is}
 use Rattle.windows.proofs.Hulls.{some_inj}
-use Rattle.rule.specs.Tables.{some}
 use Rattle.rule.proofs.Entries.{some_here, none_some, each_not}
 use Rattle.flat.specs.Tests.{within}
 use Rattle.flat.specs.Tested.{within_at, within_from}
@@ -21,7 +21,7 @@ length_places ws = length-map ws (λ w. w.earliest)
 place_at : (ws : List Window) (k : ℕ) → k < length ws → slice_index (places_of ws) k ≡ earliest_of ws k
 place_at ws k h = get_or-map (λ w. w.earliest) ws k nowhere 0 h
 
-single_places : (ws : List Window) → some wide ws ≡ false → Single ws (places_of ws)
+single_places : (ws : List Window) → list_any wide ws ≡ false → Single ws (places_of ws)
 single_places ws e =
     record {
       same_size = length_places ws;
@@ -29,10 +29,10 @@ single_places ws e =
       ends = λ k h. sym (place_at ws k h ∙ eqb-true (earliest_of ws k) (latest_of ws k) (not-false (earliest_of ws k == latest_of ws k) (each_not wide ws nowhere e k h)));
     }
 
-pub places_are : (ws : List Window) (x : List ℕ) → some wide ws ≡ false → Lies x ws → x ≡ places_of ws
+pub places_are : (ws : List Window) (x : List ℕ) → list_any wide ws ≡ false → Lies x ws → x ≡ places_of ws
 places_are ws x e l = single_lies_is ws (places_of ws) x (single_places ws e) l
 
-pub none_wide : (ws : List Window) → ((k : ℕ) → k < length ws → earliest_of ws k ≡ latest_of ws k) → some wide ws ≡ false
+pub none_wide : (ws : List Window) → ((k : ℕ) → k < length ws → earliest_of ws k ≡ latest_of ws k) → list_any wide ws ≡ false
 none_wide ws h = none_some wide ws nowhere (λ k b. not_from_true (earliest_of ws k == latest_of ws k) (eq-eqb (earliest_of ws k) (latest_of ws k) (h k b)))
 
 -- A window that is asked for is there.
@@ -47,7 +47,7 @@ places_taken ws ps long h =
     let l = length-take-le (length ws) ps long in
     ext_get_or 0 (take (length ws) ps) (places_of ws) (l ∙ sym (length_places ws)) (λ k b. (let c : k < length ws = omega arith in get_or-take (length ws) ps k 0 c ∙ h k c ∙ sym (place_at ws k c)))
 
-pub wide_asked : (s : WindowSet) (k a b : ℕ) → k < length s.each → Some (a, b) ≡ window_asked s (k + 1) → (a ≢ b) → some wide s.each ≡ true
+pub wide_asked : (s : WindowSet) (k a b : ℕ) → k < length s.each → Some (a, b) ≡ window_asked s (k + 1) → (a ≢ b) → list_any wide s.each ≡ true
 wide_asked s k a b h asked ne =
     let first = earliest_of s.each k in
     let final = latest_of s.each k in

@@ -2,7 +2,7 @@
 ghost use Rattle.std.specs.Prelude.{◌≡◌, length, take, replicate};
 ghost use Rattle.windows.specs.Filling.{set_of};
 ghost use Rattle.windows.specs.Schedules.{count};
-ghost use Rattle.rule.specs.Tables.{some};
+ghost use Rattle.std.specs.List.{list_any};
 ghost use Rattle.flat.specs.Tests.{within};
 ghost use Rattle.reload.specs.Rules.{wide, places_of};
 
@@ -10,7 +10,7 @@ use windows::Windows;
 
 // Whether some window is not one period.
 pub(crate) fn some_wide(windows: &Windows) -> bool
-    ensures { result ≡ some wide (set_of windows.now).each }
+    ensures { result ≡ list_any wide (set_of windows.now).each }
 {
     for k in 0..windows.batches() {
         if let Some((earliest, latest)) = windows.window(k + 1) {

@@ -1,23 +1,25 @@
 -- Tests of the entries of a list, and tables that begin with a list.
-use Rattle.std.proofs.Common.{◌≡◌, ℕ, zero, suc, ◌+◌, ◌-◌, ◌<◌, ◌≤◌, min, Bool, true, false, ◌||◌, ltb, List, [], ◌∷◌, ◌++◌, length, get_or, take, replicate, sym, refl, ap, ◌∙◌, ⊎_elim, arith}
-use Rattle.std.proofs.lemmas.List.{ext_get_or, get_or-take, get_or-replicate, get_or_append_left, get_or-append_right, get_or_past, length-append, length-take-le, length-replicate}
+use Rattle.std.proofs.Common.{◌≡◌, ℕ, zero, suc, ◌+◌, ◌-◌, ◌<◌, ◌≤◌, min, Bool, true, false, ◌||◌, ltb, List, [], ◌∷◌, ◌++◌, length, get_or, take, drop, replicate, sym, refl, ap, ◌∙◌, ⊎_elim, arith}
+use Rattle.std.proofs.lemmas.List.{ext_get_or, get_or-take, get_or-replicate, get_or_append_left, get_or-append_right, get_or_past, length-append, length-take-le, length-replicate, drop-replicate, take-replicate, take-append-le, append-nil}
+use Rattle.std.proofs.Math.Seq.{take-length, take-append-add}
 use Rattle.std.proofs.lemmas.Bool.{or_left, or_right, or_from, or_parts, cases_lt}
 use Rattle.std.proofs.lemmas.Bool.Decides.{nat_tests}
-use Rattle.rule.specs.Tables.{some, outside}
+use Rattle.std.specs.List.{list_any}
+use Rattle.rule.specs.Tables.{outside}
 
-pub some_here : {X : Type 0} (p : X → Bool) (vs : List X) (d : X) (k : ℕ) → k < length vs → p (get_or vs k d) ≡ true → some p vs ≡ true
+pub some_here : {X : Type 0} (p : X → Bool) (vs : List X) (d : X) (k : ℕ) → k < length vs → p (get_or vs k d) ≡ true → list_any p vs ≡ true
 some_here p [] d k h t = absurd (omega arith)
-some_here p (v ∷ vs) d zero h t = or_left (p v) (some p vs) t
-some_here p (v ∷ vs) d (suc k) h t = or_right (p v) (some p vs) (some_here p vs d k (omega arith) t)
+some_here p (v ∷ vs) d zero h t = or_left (p v) (list_any p vs) t
+some_here p (v ∷ vs) d (suc k) h t = or_right (p v) (list_any p vs) (some_here p vs d k (omega arith) t)
 
-pub none_some : {X : Type 0} (p : X → Bool) (vs : List X) (d : X) → ((k : ℕ) → k < length vs → p (get_or vs k d) ≡ false) → some p vs ≡ false
+pub none_some : {X : Type 0} (p : X → Bool) (vs : List X) (d : X) → ((k : ℕ) → k < length vs → p (get_or vs k d) ≡ false) → list_any p vs ≡ false
 none_some p [] d h = refl
-none_some p (v ∷ vs) d h = or_from (p v) (some p vs) (h 0 (omega arith)) (none_some p vs d (λ k b. h (suc k) (omega arith)))
+none_some p (v ∷ vs) d h = or_from (p v) (list_any p vs) (h 0 (omega arith)) (none_some p vs d (λ k b. h (suc k) (omega arith)))
 
-pub each_not : {X : Type 0} (p : X → Bool) (vs : List X) (d : X) → some p vs ≡ false → (k : ℕ) → k < length vs → p (get_or vs k d) ≡ false
+pub each_not : {X : Type 0} (p : X → Bool) (vs : List X) (d : X) → list_any p vs ≡ false → (k : ℕ) → k < length vs → p (get_or vs k d) ≡ false
 each_not p [] d e k h = absurd (omega arith)
-each_not p (v ∷ vs) d e zero h = (or_parts (p v) (some p vs) e).0
-each_not p (v ∷ vs) d e (suc k) h = each_not p vs d (or_parts (p v) (some p vs) e).1 k (omega arith)
+each_not p (v ∷ vs) d e zero h = (or_parts (p v) (list_any p vs) e).0
+each_not p (v ∷ vs) d e (suc k) h = each_not p vs d (or_parts (p v) (list_any p vs) e).1 k (omega arith)
 
 -- Each entry of a list of which none is outside lies within the limits.
 pub each_inside : (a b : ℕ) (vs : List ℕ) → outside a b vs ≡ false → (k : ℕ) → k < length vs → (a ≤ get_or vs k 0) × (get_or vs k 0 ≤ b)
@@ -45,16 +47,28 @@ padded_at n vs k =
     (λ h. get_or-append_right vs (replicate n 0) (length vs) k 0 refl h ∙ zeros n (k - length vs) ∙ sym (get_or_past vs k 0 h))
     (cases_lt k (length vs))
 
--- A table that has the first m entries of the list and zeros after them.
-pub table_is : (n : ℕ) (vs ts : List ℕ) (m : ℕ) → length ts ≡ n → m ≡ min (length vs) n → ((j : ℕ) → j < m → get_or ts j 0 ≡ get_or vs j 0) → ((j : ℕ) → m ≤ j → get_or ts j 0 ≡ 0) → ts ≡ take n (vs ++ replicate n 0)
-table_is n vs ts m long is front rest =
-    let l : length (vs ++ replicate n 0) ≡ length vs + n = length-append vs (replicate n 0) ∙ ap (λ a. length vs + a) (length_zeros n) in
-    let t = length-take-le n (vs ++ replicate n 0) (omega arith) in
-    ext_get_or 0 ts (take n (vs ++ replicate n 0)) (long ∙ sym t) (λ k h.
-    ⊎_elim
-    (λ below. front k below)
-    (λ above. rest k above ∙ sym (get_or_past vs k 0 (omega arith)))
-    (cases_lt k m) ∙ sym (get_or-take n (vs ++ replicate n 0) k 0 (omega arith) ∙ padded_at n vs k))
+-- A table of blanks with a list copied over its start.
+pub padded_is : {X : Type 0} (n m : ℕ) (vs : List X) (b : X) → m ≡ min (length vs) n → take m vs ++ drop m (replicate n b) ≡ take n (vs ++ replicate n b)
+padded_is n m vs b is = ⊎_elim short long (cases_lt (length vs) n)
+  where
+    short : length vs < n → take m vs ++ drop m (replicate n b) ≡ take n (vs ++ replicate n b)
+    short h =
+        let k = n - length vs in
+        let e : m ≡ length vs = omega arith in
+        let f : n ≡ length vs + k = omega arith in
+        ap (λ j. take j vs ++ drop j (replicate n b)) e
+        ∙ ap (λ s. s ++ drop (length vs) (replicate n b)) (take-length vs)
+        ∙ ap (λ s. vs ++ s) (drop-replicate (length vs) n b ∙ sym (take-replicate k n b (omega arith)))
+        ∙ sym (ap (λ j. take j (vs ++ replicate n b)) f ∙ take-append-add vs (replicate n b) k)
+
+    long : n ≤ length vs → take m vs ++ drop m (replicate n b) ≡ take n (vs ++ replicate n b)
+    long h =
+        let e : m ≡ n = omega arith in
+        let z : n - n ≡ 0 = omega arith in
+        ap (λ j. take j vs ++ drop j (replicate n b)) e
+        ∙ ap (λ s. take n vs ++ s) (drop-replicate n n b ∙ ap (λ j. replicate j b) z)
+        ∙ append-nil (take n vs)
+        ∙ sym (take-append-le n vs (replicate n b) h)
 
 -- The table of a list that is not too long begins with the list.
 pub length_padded : (n : ℕ) (vs : List ℕ) → length (take n (vs ++ replicate n 0)) ≡ n

@@ -4,9 +4,10 @@
 ghost use Rattle.std.specs.Prelude.{◌≡◌};
 ghost use Rattle.windows.specs.Filling.{set_of};
 ghost use Rattle.rule.specs.Meaning.{Meaning, Lawful};
-ghost use Rattle.rule.specs.Narrowing.{Narrowed};
+ghost use Rattle.rule.specs.Narrowing.{Narrowed, first_checks};
+ghost use Rattle.windows.specs.Refusals.{struck, Judged};
 
-use windows::{Refusal, Windows};
+use windows::{Refusal, Size, Windows};
 
 mod tables;
 
@@ -20,9 +21,9 @@ pub const MAX_CHARGE: u64 = 1_000_000_000_000;
 pub trait Rule {
     ghost meaning: { Self → Meaning };
 
-    // Whether the rule fits windows of so many batches and periods.
-    fn fits(&self, batches: usize, periods: usize) -> bool
-        ensures { result ≡ (meaning self.now).fits batches periods };
+    // Whether the rule fits windows of a size.
+    fn fits(&self, size: Size) -> bool
+        ensures { result ≡ (meaning self.now).fits size.batches size.periods };
 
     // A charge that no allowed schedule in the windows goes below.
     fn floor(&self, windows: &Windows) -> u64
@@ -31,6 +32,19 @@ pub trait Rule {
     // Replaces the windows by the cut under a cap, or refuses and leaves them.
     fn narrow(&self, windows: &mut Windows, limit: u64) -> Result<(), Refusal>
         ensures { Narrowed (meaning self.now) limit windows.old windows.new result };
+
+    // Judges a narrowing before its cut: whether the windows fit, and the cap is not above the greatest charge.
+    final fn admit(&self, windows: &Windows, limit: u64) -> Result<(), Refusal>
+        ensures { Judged (struck (first_checks (meaning self.now) limit (set_of windows.now))) result }
+    {
+        if !self.fits(windows.size()) {
+            return Err(Refusal::Unfit);
+        }
+        if limit > MAX_CHARGE {
+            return Err(Refusal::CapTooHigh);
+        }
+        Ok(())
+    }
 
     ghost lawful: { (s : Self) → Lawful (meaning s) };
 }

@@ -17,15 +17,10 @@ pub record Goes (m : Meaning) (c : Call) (s t : State) : Type 0 where
 
 -- The checks of a request, before a reading looks at the plan and the memory.
 abbrev pub checked : Meaning → State → Request → List (ℕ × Bool)
-checked m s (Open n T limit) = open_checks (m.fits n T) limit
+checked m s (Open size limit) = open_checks (m.fits size.batches size.periods) limit
 checked m s Step = step_checks s
 checked m s (Tighten limit) = tighten_checks s limit
 checked m s Read = (10, is_idle s.phase) ∷ []
-
--- The refusal, if any, is that of the first check that strikes.
-abbrev pub Judged : ℕ → Result (Unit {0}) Refusal → Type 0
-Judged refusal (Ok u) = refusal ≡ 0
-Judged refusal (Err e) = refusal ≡ number e
 
 -- A call answers by the number of the first check that strikes. If none does, the answer is right; and if one does, nothing
 -- has changed.

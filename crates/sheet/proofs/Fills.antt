@@ -1,4 +1,5 @@
 -- What the fill calls answer for the lists of a sheet whose head has passed its checks.
+use Rattle.std.specs.List.{list_any}
 use Rattle.std.proofs.Common.{◌≡◌, ℕ, ◌-◌, ◌*◌, ◌≤◌, Bool, true, false, cond, not, ◌&&◌, ◌||◌, eqb, ltb, List, [], ◌∷◌, length, take, drop, sym, refl, ap, ◌∙◌, arith, length-drop}
 use Rattle.std.proofs.lemmas.List.FromFn.{length-map-range_with_len}
 use Rattle.std.proofs.lemmas.List.{length-take-le}
@@ -8,7 +9,7 @@ use Rattle.windows.specs.Refusals.{number, struck}
 use Rattle.windows.specs.Filling.{out_of_size, fill_checks, some_bad, paired}
 use Rattle.windows.specs.WindowSets.{WindowSet}
 use Rattle.windows.proofs.Held.{numbered}
-use Rattle.rule.specs.Tables.{outside, some}
+use Rattle.rule.specs.Tables.{outside}
 use Rattle.rated.specs.Rates.{rated}
 use Rattle.rated.specs.Loading.{max_rate, rated_checks}
 use Rattle.reload.specs.Loads.{out_of_kinds, some_own_charge}
@@ -90,7 +91,7 @@ module _ (b : List ℕ) (h : Head) (f : Framed b h) where
   module _ (ks qs : List ℕ) (p : ks ≡ kinds b) (q : qs ≡ reload_charges b) where
     pub reload_checked : struck (reload_checks h.batches h.periods h.kinds ks qs) ≡ cond (bad_reload b) 5 0
     reload_checked =
-        last_of_three 3 4 5 _ _ (outside 1 h.kinds ks || (some (λ v. ltb 10000 v) qs || some_own_charge h.kinds qs)) kinds_known
+        last_of_three 3 4 5 _ _ (outside 1 h.kinds ks || (list_any (λ v. ltb 10000 v) qs || some_own_charge h.kinds qs)) kinds_known
         (two_equal _ _ _ _ (ap length p ∙ column_long 3) (ap length q ∙ charges_long))
         ∙ ap (λ (d : Bool). cond d 5 0) (rw (p, q, f.head.kinds))
 

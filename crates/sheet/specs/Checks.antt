@@ -1,9 +1,10 @@
 -- Why a sheet is refused: the first check that strikes gives its number.
+use Rattle.std.specs.List.{list_any}
 use Rattle.std.specs.Prelude.{ℕ, ◌+◌, ◌*◌, Bool, not, ◌||◌, List, [], ◌∷◌, ◌++◌, length, ◌==◌, nat_lt}
 use Rattle.windows.specs.Refusals.{struck}
 use Rattle.windows.specs.Filling.{out_of_size, some_bad}
 use Rattle.rule.specs.Meaning.{max_charge}
-use Rattle.rule.specs.Tables.{some, outside}
+use Rattle.rule.specs.Tables.{outside}
 use Rattle.rated.specs.Loading.{max_rate}
 use Rattle.reload.specs.Loads.{out_of_kinds, some_own_charge}
 use Rattle.sheet.specs.Layout.{length_told, version, batch_count, period_count, weight_told, kind_count, cap_told, capacity_bytes, reload_charges, earliest_periods, latest_periods, due_periods, kinds, rates}
@@ -29,7 +30,7 @@ abbrev pub bad_rated : List ℕ → Bool
 bad_rated b = outside 0 32 (capacity_bytes b) || (outside 1 (period_count b) (due_periods b) || outside 0 max_rate (rates b))
 
 abbrev pub bad_reload : List ℕ → Bool
-bad_reload b = outside 1 (kind_count b) (kinds b) || (some (λ v. nat_lt 10000 v) (reload_charges b) || some_own_charge (kind_count b) (reload_charges b))
+bad_reload b = outside 1 (kind_count b) (kinds b) || (list_any (λ v. nat_lt 10000 v) (reload_charges b) || some_own_charge (kind_count b) (reload_charges b))
 
 -- A window is empty or leaves the periods.
 abbrev pub bad_windows : List ℕ → Bool

@@ -11,7 +11,7 @@ use crate::tables::{charge_table, column_table, rate_table};
 use layers::{Pair, Weight, Weighted};
 use rated::Rated;
 use reload::Reload;
-use windows::{Refusal, Windows};
+use windows::{Refusal, Size, Windows};
 
 // The capacities, due periods and rates; refused if one breaks its limits.
 fn rated_of(bytes: &[u8], head: Head) -> Result<Rated, Refusal>
@@ -24,8 +24,10 @@ fn rated_of(bytes: &[u8], head: Head) -> Result<Rated, Refusal>
     let rates = rate_table(batches, n);
     let mut rated = Rated::new();
     match rated.fill(
-        n,
-        head.periods as usize,
+        Size {
+            batches: n,
+            periods: head.periods as usize,
+        },
         capacity_section(bytes, head),
         &dues[0..n],
         &rates[0..n],
@@ -46,8 +48,10 @@ fn reload_of(bytes: &[u8], head: Head) -> Result<Reload, Refusal>
     let charges = charge_table(charge_section(bytes, head), head.kinds as usize);
     let mut reload = Reload::new();
     match reload.fill(
-        n,
-        head.periods as usize,
+        Size {
+            batches: n,
+            periods: head.periods as usize,
+        },
         head.kinds as usize,
         &kinds[0..n],
         &charges[0..square],
@@ -67,7 +71,14 @@ fn windows_of(bytes: &[u8], head: Head) -> Result<Windows, Refusal>
     let earliest = column_table(batches, n, 0);
     let latest = column_table(batches, n, 1);
     let mut windows = Windows::new();
-    match windows.fill(n, head.periods as usize, &earliest[0..n], &latest[0..n]) {
+    match windows.fill(
+        Size {
+            batches: n,
+            periods: head.periods as usize,
+        },
+        &earliest[0..n],
+        &latest[0..n],
+    ) {
         Ok(()) => Ok(windows),
         Err(refusal) => Err(refusal),
     }

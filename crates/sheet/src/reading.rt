@@ -10,7 +10,7 @@ use crate::head::Head;
 use crate::loading::job_of;
 use crate::section::{Section, Sheet};
 use rule::MAX_CHARGE;
-use windows::{Refusal, breaks_size};
+use windows::{Refusal, Size};
 
 // The head that stands in some bytes, whatever they are.
 pub(crate) fn head_of(bytes: &[u8]) -> Head
@@ -38,7 +38,11 @@ pub(crate) fn head_of(bytes: &[u8]) -> Head
 fn breaks_limits(head: Head) -> bool
     ensures { result ≡ over_limits head.batches head.periods head.kinds head.weight head.limit }
 {
-    breaks_size(head.batches as usize, head.periods as usize)
+    let size = Size {
+        batches: head.batches as usize,
+        periods: head.periods as usize,
+    };
+    size.breaks_limits()
         || head.kinds < 1
         || head.kinds > 8
         || head.weight < 1

@@ -10,7 +10,7 @@ ghost use Rattle.wake.specs.Exports.{last_periods, window_checks, flat_table_che
 use flat::Flat;
 use rated::Rated;
 use rule::Rule;
-use windows::{Refusal, Windows, breaks_size};
+use windows::{Refusal, Size, Windows};
 
 // Writes both ends of each window into a table each.
 fn write_windows(windows: &Windows, earliest: &mut [u8], latest: &mut [u8])
@@ -43,7 +43,7 @@ fn narrow_windows<R: Rule>(
     ensures { TablesAnswered (R.Rule.meaning rule.now) periods limit (window_checks (R.Rule.meaning rule.now) periods earliest.old latest.old limit) earliest.old latest.old earliest.new latest.new result }
 {
     let mut windows = Windows::new();
-    if let Err(refusal) = windows.fill(batches, periods, earliest, latest) {
+    if let Err(refusal) = windows.fill(Size { batches, periods }, earliest, latest) {
         return Err(refusal);
     }
     if let Err(refusal) = rule.narrow(&mut windows, limit) {
@@ -65,14 +65,15 @@ pub(crate) fn narrow_flat(
 ) -> Result<(), Refusal>
     ensures { TablesAnswered (flat batches periods capacities.now dues.now) periods limit (flat_table_checks batches periods capacities.now dues.now earliest.old latest.old limit) earliest.old latest.old earliest.new latest.new result }
 {
-    if breaks_size(batches, periods) {
+    let size = Size { batches, periods };
+    if size.breaks_limits() {
         return Err(Refusal::Limit);
     }
     if earliest.len() != batches || latest.len() != batches {
         return Err(Refusal::ListLength);
     }
     let mut rule = Flat::new();
-    if let Err(refusal) = rule.fill(batches, periods, capacities, dues) {
+    if let Err(refusal) = rule.fill(size, capacities, dues) {
         return Err(refusal);
     }
     narrow_windows(&rule, batches, periods, earliest, latest, limit)
@@ -106,7 +107,8 @@ pub(crate) fn narrow_rated(
 ) -> Result<(), Refusal>
     ensures { TablesAnswered (rated batches periods capacities.now dues.now (pairs batches rates.now)) periods limit (rated_table_checks batches periods capacities.now dues.now rates.now earliest.old latest.old limit) earliest.old latest.old earliest.new latest.new result }
 {
-    if breaks_size(batches, periods) {
+    let size = Size { batches, periods };
+    if size.breaks_limits() {
         return Err(Refusal::Limit);
     }
     if earliest.len() != batches || latest.len() != batches || rates.len() != 2 * batches {
@@ -114,7 +116,7 @@ pub(crate) fn narrow_rated(
     }
     let table = rate_table(rates, batches);
     let mut rule = Rated::new();
-    if let Err(refusal) = rule.fill(batches, periods, capacities, dues, &table[0..batches]) {
+    if let Err(refusal) = rule.fill(size, capacities, dues, &table[0..batches]) {
         return Err(refusal);
     }
     narrow_windows(&rule, batches, periods, earliest, latest, limit)

@@ -4,7 +4,7 @@ use crate::showing::{ask, narrow, price, report};
 use flat::{Flat, Slots};
 use rule::Rule;
 use std::io;
-use windows::Windows;
+use windows::{Size, Windows};
 
 // Three batches, two of which need the last two of four periods: the first period takes none.
 pub(crate) fn by_slots(rt: &HostRuntime) -> io::Result<()> {
@@ -13,19 +13,19 @@ pub(crate) fn by_slots(rt: &HostRuntime) -> io::Result<()> {
     report(
         rt,
         "fill windows 3-4, 3-4, 1-4",
-        windows.fill(3, 4, &[3, 3, 1], &[4, 4, 4]),
+        windows.fill(Size::new(3, 4), &[3, 3, 1], &[4, 4, 4]),
     )?;
     draw(rt, &windows)?;
     let mut slots = Slots::new();
     report(
         rt,
         "fill capacities 0, 1, 1, 33",
-        slots.fill(3, 4, &[0, 1, 1, 33]),
+        slots.fill(Size::new(3, 4), &[0, 1, 1, 33]),
     )?;
     report(
         rt,
         "fill capacities 0, 1, 1, 1",
-        slots.fill(3, 4, &[0, 1, 1, 1]),
+        slots.fill(Size::new(3, 4), &[0, 1, 1, 1]),
     )?;
     narrow(rt, "Slots", &slots, &mut windows, 0)
 }
@@ -38,19 +38,23 @@ pub(crate) fn by_flat(rt: &HostRuntime) -> io::Result<()> {
     report(
         rt,
         "fill windows 1-3, 1-6, 1-7, 1-7, 1-9",
-        windows.fill(5, 8, &[1; 5], &[3, 6, 7, 7, 9]),
+        windows.fill(Size::new(5, 8), &[1; 5], &[3, 6, 7, 7, 9]),
     )?;
     report(
         rt,
         "fill windows 1-3, 1-6, 1-7, 1-7, 1-8",
-        windows.fill(5, 8, &[1; 5], &latest),
+        windows.fill(Size::new(5, 8), &[1; 5], &latest),
     )?;
     ask(rt, &windows, 2)?;
     ask(rt, &windows, 6)?;
     draw(rt, &windows)?;
     let mut flat = Flat::new();
     report(rt, "narrow by a blank Flat", flat.narrow(&mut windows, 4))?;
-    report(rt, "fill Flat", flat.fill(5, 8, &[1; 8], &latest))?;
+    report(
+        rt,
+        "fill Flat",
+        flat.fill(Size::new(5, 8), &[1; 8], &latest),
+    )?;
     price(rt, "Flat", &flat, &windows)?;
     narrow(rt, "Flat", &flat, &mut windows, 1)?;
     narrow(rt, "Flat", &flat, &mut windows, 1_000_000_000_001)?;

@@ -5,7 +5,7 @@ use layers::{Pair, Weight, Weighted};
 use rated::Rated;
 use reload::Reload;
 use std::io;
-use windows::Windows;
+use windows::{Size, Windows};
 
 // Two batches of different kinds over three periods: waiting counts twice, and a change of kind costs 5 one way and 3 the other.
 pub(crate) fn by_pair(rt: &HostRuntime) -> io::Result<()> {
@@ -16,18 +16,18 @@ pub(crate) fn by_pair(rt: &HostRuntime) -> io::Result<()> {
     report(
         rt,
         "fill Rated",
-        rated.fill(2, 3, &[1; 3], &[3, 3], &[4, 1]),
+        rated.fill(Size::new(2, 3), &[1; 3], &[3, 3], &[4, 1]),
     )?;
     let mut reload = Reload::new();
     report(
         rt,
         "fill a charge of kind 1 to itself",
-        reload.fill(2, 3, 2, &[1, 2], &[1, 5, 3, 0]),
+        reload.fill(Size::new(2, 3), 2, &[1, 2], &[1, 5, 3, 0]),
     )?;
     report(
         rt,
         "fill Reload",
-        reload.fill(2, 3, 2, &[1, 2], &[0, 5, 3, 0]),
+        reload.fill(Size::new(2, 3), 2, &[1, 2], &[0, 5, 3, 0]),
     )?;
     let weight = match Weight::new(2) {
         Ok(weight) => weight,
@@ -38,7 +38,7 @@ pub(crate) fn by_pair(rt: &HostRuntime) -> io::Result<()> {
     report(
         rt,
         "fill windows 1-3, 1-3",
-        windows.fill(2, 3, &[1; 2], &[3; 2]),
+        windows.fill(Size::new(2, 3), &[1; 2], &[3; 2]),
     )?;
     draw(rt, &windows)?;
     price(rt, "the pair", &pair, &windows)?;
@@ -47,7 +47,7 @@ pub(crate) fn by_pair(rt: &HostRuntime) -> io::Result<()> {
     report(
         rt,
         "fill windows 3-3, 2-2",
-        windows.fill(2, 3, &[3, 2], &[3, 2]),
+        windows.fill(Size::new(2, 3), &[3, 2], &[3, 2]),
     )?;
     price(rt, "the pair", &pair, &windows)?;
     narrow(rt, "the pair", &pair, &mut windows, 5)?;

@@ -3,7 +3,7 @@ use crate::drawing::draw;
 use crate::showing::{narrow, price, report};
 use rated::Rated;
 use std::io;
-use windows::Windows;
+use windows::{Size, Windows};
 
 // Four batches of which the first may be early or in the last period, and nothing between.
 pub(crate) fn by_rated(rt: &HostRuntime) -> io::Result<()> {
@@ -15,19 +15,19 @@ pub(crate) fn by_rated(rt: &HostRuntime) -> io::Result<()> {
     report(
         rt,
         "fill windows 1-4, 1-3, 1-3, 1-4",
-        windows.fill(4, 4, &[1; 4], &latest),
+        windows.fill(Size::new(4, 4), &[1; 4], &latest),
     )?;
     draw(rt, &windows)?;
     let mut rated = Rated::new();
     report(
         rt,
         "fill a rate of 10001",
-        rated.fill(4, 4, &[1; 4], &latest, &[1, 10, 20, 10_001]),
+        rated.fill(Size::new(4, 4), &[1; 4], &latest, &[1, 10, 20, 10_001]),
     )?;
     report(
         rt,
         "fill Rated",
-        rated.fill(4, 4, &[1; 4], &latest, &[1, 10, 20, 2]),
+        rated.fill(Size::new(4, 4), &[1; 4], &latest, &[1, 10, 20, 2]),
     )?;
     price(rt, "Rated", &rated, &windows)?;
     narrow(rt, "Rated", &rated, &mut windows, 20)?;
@@ -44,14 +44,14 @@ pub(crate) fn priced(rt: &HostRuntime) -> io::Result<()> {
     report(
         rt,
         "fill windows from 1 to due",
-        windows.fill(6, 8, &[1; 6], &latest),
+        windows.fill(Size::new(6, 8), &[1; 6], &latest),
     )?;
     let mut rated = Rated::new();
     let capacities = [1, 1, 0, 1, 1, 1, 1, 1];
     report(
         rt,
         "fill Rated",
-        rated.fill(6, 8, &capacities, &latest, &[3, 10, 4, 2, 2, 4]),
+        rated.fill(Size::new(6, 8), &capacities, &latest, &[3, 10, 4, 2, 2, 4]),
     )?;
     price(rt, "Rated", &rated, &windows)
 }

@@ -5,7 +5,7 @@ use flat::Flat;
 use rule::Rule;
 use search::{Phase, Search, Step};
 use std::io;
-use windows::Windows;
+use windows::{Size, Windows};
 
 // Prints the phase, the open parts and the charge held.
 fn look<R: Rule>(rt: &HostRuntime, search: &Search<R>) -> io::Result<()> {
@@ -62,11 +62,15 @@ pub(crate) fn by_search(rt: &HostRuntime) -> io::Result<()> {
     report(
         rt,
         "fill windows 1-2, 1-2",
-        windows.fill(2, 2, &[1; 2], &[2; 2]),
+        windows.fill(Size::new(2, 2), &[1; 2], &[2; 2]),
     )?;
     draw(rt, &windows)?;
     let mut flat = Flat::new();
-    report(rt, "fill Flat", flat.fill(2, 2, &[1; 2], &[2; 2]))?;
+    report(
+        rt,
+        "fill Flat",
+        flat.fill(Size::new(2, 2), &[1; 2], &[2; 2]),
+    )?;
     let mut search = Search::new(flat);
     look(rt, &search)?;
     advance(rt, &mut search)?;

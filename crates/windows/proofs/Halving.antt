@@ -1,28 +1,35 @@
 -- The first wide window, found from the front; a window changed in a table; periods written one after the other.
-use Rattle.std.proofs.Common.{◌≡◌, ℕ, zero, suc, ◌+◌, ◌<◌, ◌≤◌, Bool, true, false, cond, ltb, List, [], ◌∷◌, ◌++◌, length, get_or, take, drop, set, sym, refl, ap, ◌∙◌, subst, inl, inr, append_assoc, le_of_suc-le-suc, arith}
+use Rattle.std.proofs.Common.{◌≡◌, ℕ, zero, suc, ◌+◌, ◌<◌, ◌≤◌, Bool, true, false, cond, ltb, List, [], ◌∷◌, ◌++◌, length, get_or, take, drop, set, position, Some, None, sym, refl, ap, ◌∙◌, subst, inl, inr, append_assoc, le_of_suc-le-suc, arith}
 use lib.Seq.{take-set-lt}
-use Rattle.std.proofs.lemmas.List.{get_or-take, get_or-set_same, get_or-set_other, at_drop_more, at_drop_all, take_more, take_all, drop_more, set_at, length-take-le}
-use Rattle.std.proofs.lemmas.Bool.{cases_eq, cond-true, cond-false, lt-ltb, le-ltb, ltb-true}
+use Rattle.std.proofs.lemmas.List.{get_or-take, get_or-set_same, get_or-set_other, take_more, take_all, drop_more, set_at, length-take-le}
+use Rattle.std.proofs.lemmas.Bool.{cases_eq, ltb-true, ltb-false}
+use Rattle.std.specs.List.{position_or_len}
+use Rattle.std.proofs.lemmas.List.Recursion.{is_position_or_len}
 use Rattle.windows.specs.declared.window.Window.{Window}
 use Rattle.windows.specs.declared.windows.Windows.{Windows}
 use Rattle.windows.specs.WindowSets.{earliest_of, latest_of, nowhere}
 use Rattle.windows.specs.Filling.{set_of}
-use Rattle.windows.specs.Halves.{first_wide, halved, first_periods, over}
+use Rattle.windows.specs.Halves.{wide, first_wide, halved, first_periods, over}
+use Rattle.windows.proofs.Hulls.{some_inj, not_some}
 use Rattle.windows.proofs.Held.{held_length}
 
-module _ (ws : List Window) (k : ℕ) (found : k + first_wide (drop k ws) ≡ first_wide ws) where
-  pub wide_here : k < length ws → earliest_of ws k < latest_of ws k → k ≡ first_wide ws
-  wide_here h b =
-      let e : first_wide (drop k ws) ≡ 0 = at_drop_more first_wide ws k nowhere h ∙ cond-true (ltb (earliest_of ws k) (latest_of ws k)) 0 (suc (first_wide (drop (k + 1) ws))) (lt-ltb (earliest_of ws k) (latest_of ws k) b) in
-      omega arith
+first_wide_is : (ws : List Window) → first_wide ws ≡ position_or_len wide ws
+first_wide_is ws = is_position_or_len first_wide wide refl (λ v vs. (let e : suc (first_wide vs) ≡ 1 + first_wide vs = omega arith in ap (λ (n : ℕ). cond (wide v) 0 n) e)) ws
 
-  pub wide_next : k < length ws → latest_of ws k ≤ earliest_of ws k → (k + 1) + first_wide (drop (k + 1) ws) ≡ first_wide ws
-  wide_next h b =
-      let e : first_wide (drop k ws) ≡ suc (first_wide (drop (k + 1) ws)) = at_drop_more first_wide ws k nowhere h ∙ cond-false (ltb (earliest_of ws k) (latest_of ws k)) 0 (suc (first_wide (drop (k + 1) ws))) (le-ltb (earliest_of ws k) (latest_of ws k) b) in
-      omega arith
+module _ (ws : List Window) where
+  pub wide_found : (k : ℕ) → position wide ws ≡ Some k → (k ≡ first_wide ws) × (k < length ws)
+  wide_found k e = go (ltb (position_or_len wide ws) (length ws)) refl e
+    where
+      go : (b : Bool) → ltb (position_or_len wide ws) (length ws) ≡ b → cond b (Some (position_or_len wide ws)) None ≡ Some k → (k ≡ first_wide ws) × (k < length ws)
+      go true t f = let i = some_inj (position_or_len wide ws) k f in (sym i ∙ sym (first_wide_is ws), omega (arith, ltb-true _ _ t))
+      go false t f = absurd (not_some k f)
 
-  pub wide_end : length ws ≤ k → k ≡ first_wide ws
-  wide_end h = let e : first_wide (drop k ws) ≡ 0 = at_drop_all first_wide ws k h in omega arith
+  pub none_wide : position wide ws ≡ None → length ws ≤ first_wide ws
+  none_wide e = go (ltb (position_or_len wide ws) (length ws)) refl e
+    where
+      go : (b : Bool) → ltb (position_or_len wide ws) (length ws) ≡ b → cond b (Some (position_or_len wide ws)) None ≡ None → length ws ≤ first_wide ws
+      go true t f = absurd (not_some (position_or_len wide ws) (sym f))
+      go false t f = omega (arith, first_wide_is ws, ltb-false _ _ t)
 
 pub wide_at : (ws : List Window) → first_wide ws < length ws → earliest_of ws (first_wide ws) < latest_of ws (first_wide ws)
 wide_at [] h = absurd (omega arith)

@@ -1,5 +1,6 @@
 -- What windows hold, and what the calls on them do.
-use Rattle.std.specs.Prelude.{◌≡◌, ℕ, ◌-◌, Bool, false, cond, not, ◌&&◌, ◌||◌, List, [], ◌∷◌, length, take, Some, None, Ok, Err, Option, Result, ◌==◌, nat_le, nat_lt}
+use Rattle.std.specs.Prelude.{◌≡◌, ℕ, ◌-◌, Bool, cond, not, ◌&&◌, ◌||◌, List, [], ◌∷◌, length, take, Some, None, Ok, Err, Option, Result, ◌==◌, nat_le, nat_lt}
+use Rattle.std.specs.List.{list_any, zip}
 use Rattle.windows.specs.declared.refusal.Refusal.{Refusal}
 use Rattle.windows.specs.declared.window.Window.{Window}
 use Rattle.windows.specs.declared.windows.Windows.{Windows}
@@ -28,10 +29,9 @@ paired (e ∷ es) (l ∷ ls) = window e l ∷ paired es ls
 abbrev pub bad : ℕ → ℕ → ℕ → Bool
 bad T e l = nat_lt e 1 || (nat_lt l e || nat_lt T l)
 
+-- Some window of two lists is bad.
 abbrev pub some_bad : ℕ → List ℕ → List ℕ → Bool
-some_bad T [] ls = false
-some_bad T (e ∷ es) [] = false
-some_bad T (e ∷ es) (l ∷ ls) = bad T e l || some_bad T es ls
+some_bad T es ls = list_any (λ p. bad T p.0 p.1) (zip es ls)
 
 -- The limits of n and T.
 abbrev pub out_of_size : ℕ → ℕ → Bool

@@ -1,5 +1,5 @@
 -- Windows cut in two halves, and the schedule of windows of one period each.
-use Rattle.std.specs.Prelude.{◌≡◌, ℕ, suc, ◌+◌, ◌/◌, Bool, true, false, cond, List, [], ◌∷◌, ◌++◌, length, drop, Some, None, Ok, Err, Option, Result, nat_le, nat_lt, slice_index_or, slice_set}
+use Rattle.std.specs.Prelude.{◌≡◌, ℕ, suc, ◌+◌, ◌/◌, Bool, true, false, cond, List, [], ◌∷◌, ◌++◌, length, map, drop, Some, None, Ok, Err, Option, Result, nat_le, nat_lt, slice_index_or, slice_set}
 use Rattle.windows.specs.declared.refusal.Refusal.{Refusal}
 use Rattle.windows.specs.declared.window.Window.{Window}
 use Rattle.windows.specs.declared.windows.Windows.{Windows}
@@ -7,10 +7,14 @@ use Rattle.windows.specs.Refusals.{number, struck}
 use Rattle.windows.specs.WindowSets.{WindowSet, window, nowhere}
 use Rattle.windows.specs.Filling.{set_of}
 
+-- A window has more than one period.
+abbrev pub wide : Window → Bool
+wide w = nat_lt w.earliest w.latest
+
 -- The lowest-numbered batch with more than one period, counted from 0; the number of batches if there is none.
 abbrev pub first_wide : List Window → ℕ
 first_wide [] = 0
-first_wide (w ∷ ws) = cond (nat_lt w.earliest w.latest) 0 (suc (first_wide ws))
+first_wide (w ∷ ws) = cond (wide w) 0 (suc (first_wide ws))
 
 -- Every window is one period.
 abbrev pub one_each : WindowSet → Bool
@@ -44,8 +48,7 @@ SplitUp before after (Some half) = (one_each (set_of before) ≡ false) × (set_
 
 -- The earliest period of each batch: the schedule, if every window is one period.
 abbrev pub first_periods : List Window → List ℕ
-first_periods [] = []
-first_periods (w ∷ ws) = w.earliest ∷ first_periods ws
+first_periods ws = map (λ w. w.earliest) ws
 
 -- A schedule written over the start of a memory, and what is beyond left as it was.
 abbrev pub over : List ℕ → List ℕ → List ℕ

@@ -1,5 +1,5 @@
 -- The numbers of the refusals, and the order in which the checks of a call run.
-use Rattle.std.specs.Prelude.{ℕ, Bool, cond, List, [], ◌∷◌, Some, None, Option}
+use Rattle.std.specs.Prelude.{ℕ, Bool, cond, List, [], ◌∷◌, Some, None, Ok, Err, Option, Result, ◌≡◌}
 use Rattle.windows.specs.declared.refusal.Refusal.{Refusal}
 use Rattle.windows.specs.declared.refusal.Refusal.TheVariants.{SheetLength, Version, Limit, ListLength, Entry, BadWindow, Unfit, CapTooHigh, NoSchedule, Idle, Done, CapNotLower, NoPlan, ShortMemory}
 
@@ -30,3 +30,8 @@ refused_by (Some e) = number e
 abbrev pub struck : List (ℕ × Bool) → ℕ
 struck [] = 0
 struck (c ∷ cs) = cond c.1 c.0 (struck cs)
+
+-- A call that only judges answers what its first check that strikes says.
+abbrev pub Judged : ℕ → Result (Unit {0}) Refusal → Type 0
+Judged n (Ok u) = n ≡ 0
+Judged n (Err e) = n ≡ number e

@@ -2,9 +2,11 @@
 #![tactic(auto)]
 
 mod refusal;
+mod size;
 mod window;
 mod windows;
 
 pub use refusal::Refusal;
+pub use size::Size;
 pub use window::Window;
-pub use windows::{Windows, breaks_size};
+pub use windows::Windows;

@@ -1,9 +1,12 @@
 // Why a call is turned down.
-ghost use Rattle.std.specs.Prelude.{◌≡◌};
+ghost use Rattle.std.specs.Prelude.{◌≡◌, Some, decimal};
 ghost use Rattle.windows.specs.Refusals.{number as number_of};
 
+use std::error::Error;
+use std::fmt;
+
 // The first check that strikes names the refusal, and a refused call changes nothing.
-#[derive(Clone, Copy, Debug, PartialEq)]
+#[derive(Clone, Copy, Debug, PartialEq, Eq)]
 pub enum Refusal {
     SheetLength = 1, // a sheet is too short, or its length miscounts what follows
     Version = 2, // the version of a sheet is unknown
@@ -29,3 +32,15 @@ impl Refusal {
         self as u8
     }
 }
+
+// A refusal is printed as its number.
+impl fmt::Display for Refusal {
+    ghost output = { λ refusal. Some (decimal (number_of refusal)) };
+
+    fn fmt<W: fmt::Write>(&self, f: &mut fmt::Formatter<W>) -> fmt::Result {
+        let number = self.number();
+        write!(f, "{number}")
+    }
+}
+
+impl Error for Refusal {}

@@ -7,8 +7,6 @@ use crate::window::Window;
 mod calls;
 mod parts;
 
-pub use calls::breaks_size;
-
 // One window for each of up to 32 batches, over up to 64 periods. No window is ever empty.
 #[derive(Clone, Copy)]
 pub struct Windows {

@@ -14,19 +14,19 @@ use crate::slots::Slots;
 use line::Batch;
 use rule::{MAX_CHARGE, Rule, padded, some_outside};
 use sweep::Batches;
-use windows::{Refusal, Windows, breaks_size};
+use windows::{Refusal, Size, Windows};
 
 // The first check of a fill that strikes.
-fn fill_refusal(batches: usize, periods: usize, capacities: &[u8], dues: &[u8]) -> Option<Refusal>
-    ensures { refused_by result ≡ struck (flat_checks batches periods capacities.now dues.now) }
+fn fill_refusal(size: Size, capacities: &[u8], dues: &[u8]) -> Option<Refusal>
+    ensures { refused_by result ≡ struck (flat_checks size.batches size.periods capacities.now dues.now) }
 {
-    if breaks_size(batches, periods) {
+    if size.breaks_limits() {
         return Some(Refusal::Limit);
     }
-    if capacities.len() != periods || dues.len() != batches {
+    if capacities.len() != size.periods || dues.len() != size.batches {
         return Some(Refusal::ListLength);
     }
-    if some_outside(capacities, 0, 32) || some_outside(dues, 1, periods as u8) {
+    if some_outside(capacities, 0, 32) || some_outside(dues, 1, size.periods as u8) {
         return Some(Refusal::Entry);
     }
     None
@@ -49,26 +49,20 @@ impl Flat {
     }
 
     // Loads the capacity of each period and the due period of each batch.
-    pub fn fill(
-        &mut self,
-        batches: usize,
-        periods: usize,
-        capacities: &[u8],
-        dues: &[u8],
-    ) -> Result<(), Refusal>
-        ensures { Loaded flat_of (flat_checks batches periods capacities.now dues.now) (flat batches periods capacities.now dues.now) self.old self.new result }
+    pub fn fill(&mut self, size: Size, capacities: &[u8], dues: &[u8]) -> Result<(), Refusal>
+        ensures { Loaded flat_of (flat_checks size.batches size.periods capacities.now dues.now) (flat size.batches size.periods capacities.now dues.now) self.old self.new result }
     {
-        if let Some(refusal) = fill_refusal(batches, periods, capacities, dues) {
+        if let Some(refusal) = fill_refusal(size, capacities, dues) {
             return Err(refusal);
         }
         let slots = Slots {
-            count: batches as u8,
-            last: periods as u8,
-            capacities: padded(capacities),
+            count: size.batches as u8,
+            last: size.periods as u8,
+            capacities: padded(capacities, 0),
         };
         *self = Flat {
             slots,
-            dues: padded(dues),
+            dues: padded(dues, 0),
         };
         Ok(())
     }
@@ -80,7 +74,7 @@ impl Flat {
     fn batches(&self, windows: &Windows) -> Option<Batches>
         ensures { MatchOption result (NothingAllowed self.now windows.now) (λ b. Clips self.now windows.now b) }
     {
-        if !self.fits(windows.batches(), windows.periods()) {
+        if !self.fits(windows.size()) {
             return None;
         }
         let mut each = [Batch {
@@ -113,12 +107,11 @@ impl Flat {
         let Some(ends) = ends_within(&batches, &self.slots.capacities, limit) else {
             return Err(Refusal::NoSchedule);
         };
-        let n = windows.batches();
+        let size = windows.size();
         windows.fill(
-            n,
-            windows.periods(),
-            &ends.earliest[0..n],
-            &ends.latest[0..n],
+            size,
+            &ends.earliest[..size.batches],
+            &ends.latest[..size.batches],
         )
     }
 }
@@ -128,8 +121,8 @@ impl Rule for Flat {
 
     ghost lawful = { λ f. flat_lawful f.slots.count f.slots.last (take f.slots.last f.slots.capacities) (take f.slots.count f.dues) f.slots.few (front_bounded f.slots.count 32 64 f.dues f.dated f.slots.few f.soon) };
 
-    fn fits(&self, batches: usize, periods: usize) -> bool {
-        batches == self.slots.count as usize && periods == self.slots.last as usize
+    fn fits(&self, size: Size) -> bool {
+        size.batches == self.slots.count as usize && size.periods == self.slots.last as usize
     }
 
     fn floor(&self, windows: &Windows) -> u64 {
@@ -143,7 +136,7 @@ impl Rule for Flat {
     }
 
     fn narrow(&self, windows: &mut Windows, limit: u64) -> Result<(), Refusal> {
-        if !self.fits(windows.batches(), windows.periods()) {
+        if !self.fits(windows.size()) {
             return Err(Refusal::Unfit);
         }
         if limit > MAX_CHARGE {

@@ -9,16 +9,16 @@ ghost use Rattle.flat.specs.Laws.{slots_lawful};
 use crate::flat::Flat;
 use crate::slots::Slots;
 use rule::{MAX_CHARGE, Rule, padded, some_outside};
-use windows::{Refusal, Windows, breaks_size};
+use windows::{Refusal, Size, Windows};
 
 // The first check of a fill that strikes.
-fn fill_refusal(batches: usize, periods: usize, capacities: &[u8]) -> Option<Refusal>
-    ensures { refused_by result ≡ struck (slots_checks batches periods capacities.now) }
+fn fill_refusal(size: Size, capacities: &[u8]) -> Option<Refusal>
+    ensures { refused_by result ≡ struck (slots_checks size.batches size.periods capacities.now) }
 {
-    if breaks_size(batches, periods) {
+    if size.breaks_limits() {
         return Some(Refusal::Limit);
     }
-    if capacities.len() != periods {
+    if capacities.len() != size.periods {
         return Some(Refusal::ListLength);
     }
     if some_outside(capacities, 0, 32) {
@@ -41,16 +41,16 @@ impl Slots {
     }
 
     // Loads the capacity of each period.
-    pub fn fill(&mut self, batches: usize, periods: usize, capacities: &[u8]) -> Result<(), Refusal>
-        ensures { Loaded slots_of (slots_checks batches periods capacities.now) (slots batches periods capacities.now) self.old self.new result }
+    pub fn fill(&mut self, size: Size, capacities: &[u8]) -> Result<(), Refusal>
+        ensures { Loaded slots_of (slots_checks size.batches size.periods capacities.now) (slots size.batches size.periods capacities.now) self.old self.new result }
     {
-        if let Some(refusal) = fill_refusal(batches, periods, capacities) {
+        if let Some(refusal) = fill_refusal(size, capacities) {
             return Err(refusal);
         }
         *self = Slots {
-            count: batches as u8,
-            last: periods as u8,
-            capacities: padded(capacities),
+            count: size.batches as u8,
+            last: size.periods as u8,
+            capacities: padded(capacities, 0),
         };
         Ok(())
     }
@@ -61,12 +61,12 @@ impl Rule for Slots {
 
     ghost lawful = { λ s. slots_lawful s.count s.last (take s.last s.capacities) };
 
-    fn fits(&self, batches: usize, periods: usize) -> bool {
-        batches == self.count as usize && periods == self.last as usize
+    fn fits(&self, size: Size) -> bool {
+        size.batches == self.count as usize && size.periods == self.last as usize
     }
 
     fn floor(&self, windows: &Windows) -> u64 {
-        if self.fits(windows.batches(), windows.periods()) {
+        if self.fits(windows.size()) {
             0
         } else {
             MAX_CHARGE
@@ -74,7 +74,7 @@ impl Rule for Slots {
     }
 
     fn narrow(&self, windows: &mut Windows, limit: u64) -> Result<(), Refusal> {
-        if !self.fits(windows.batches(), windows.periods()) {
+        if !self.fits(windows.size()) {
             return Err(Refusal::Unfit);
         }
         if limit > MAX_CHARGE {

@@ -17,7 +17,7 @@ use flat::Flat;
 use line::Batch;
 use rule::{MAX_CHARGE, Rule, padded, some_outside};
 use sweep::Batches;
-use windows::{Refusal, Windows, breaks_size};
+use windows::{Refusal, Size, Windows};
 
 // The greatest rate, in microampere-hours a period.
 const MAX_RATE: u32 = 10_000;
@@ -26,23 +26,7 @@ const MAX_RATE: u32 = 10_000;
 fn some_dear(rates: &[u32]) -> bool
     ensures { result ≡ outside 0 max_rate rates.now }
 {
-    for &rate in rates {
-        if rate > MAX_RATE {
-            return true;
-        }
-    }
-    false
-}
-
-// A table of 32 rates: those of the list, then zeros; what is beyond 32 is left out.
-fn rate_table(rates: &[u32]) -> [u32; 32]
-    ensures { result ≡ take 32 (rates.now ++ replicate 32 0) }
-{
-    let mut table = [0; 32];
-    for k in 0..rates.len().min(32) {
-        table[k] = rates[k];
-    }
-    table
+    rates.iter().any(|&rate| rate > MAX_RATE)
 }
 
 impl Rated {
@@ -62,32 +46,34 @@ impl Rated {
     // Loads the capacity of each period, and the due period and the rate of each batch.
     pub fn fill(
         &mut self,
-        batches: usize,
-        periods: usize,
+        size: Size,
         capacities: &[u8],
         dues: &[u8],
         rates: &[u32],
     ) -> Result<(), Refusal>
-        ensures { Loaded rated_of (rated_checks batches periods capacities.now dues.now rates.now) (rated batches periods capacities.now dues.now rates.now) self.old self.new result }
+        ensures { Loaded rated_of (rated_checks size.batches size.periods capacities.now dues.now rates.now) (rated size.batches size.periods capacities.now dues.now rates.now) self.old self.new result }
     {
-        if breaks_size(batches, periods) {
+        if size.breaks_limits() {
             return Err(Refusal::Limit);
         }
-        if capacities.len() != periods || dues.len() != batches || rates.len() != batches {
+        if capacities.len() != size.periods
+            || dues.len() != size.batches
+            || rates.len() != size.batches
+        {
             return Err(Refusal::ListLength);
         }
         if some_outside(capacities, 0, 32)
-            || some_outside(dues, 1, periods as u8)
+            || some_outside(dues, 1, size.periods as u8)
             || some_dear(rates)
         {
             return Err(Refusal::Entry);
         }
         *self = Rated {
-            count: batches as u8,
-            last: periods as u8,
-            capacities: padded(capacities),
-            dues: padded(dues),
-            rates: rate_table(rates),
+            count: size.batches as u8,
+            last: size.periods as u8,
+            capacities: padded(capacities, 0),
+            dues: padded(dues, 0),
+            rates: padded(rates, 0),
         };
         Ok(())
     }
@@ -102,8 +88,7 @@ impl Rated {
         let periods = self.last as usize;
         let mut flat = Flat::new();
         let _ = flat.fill(
-            batches,
-            periods,
+            Size { batches, periods },
             &self.capacities[0..periods],
             &self.dues[0..batches],
         );
@@ -115,7 +100,7 @@ impl Rated {
     fn batches(&self, windows: &Windows) -> Option<Batches>
         ensures { MatchOption result (NothingFits self.now windows.now) (λ b. Prices self.now windows.now b) }
     {
-        if !self.fits(windows.batches(), windows.periods()) {
+        if !self.fits(windows.size()) {
             return None;
         }
         let mut each = [Batch {
@@ -155,8 +140,8 @@ impl Rated {
         let Some(latest) = last_affordable(&batches, &self.capacities, limit, &hull) else {
             return Err(Refusal::NoSchedule);
         };
-        let n = hull.batches();
-        windows.fill(n, hull.periods(), &earliest[0..n], &latest[0..n])
+        let size = hull.size();
+        windows.fill(size, &earliest[..size.batches], &latest[..size.batches])
     }
 }
 
@@ -165,8 +150,8 @@ impl Rule for Rated {
 
     ghost lawful = { λ r. rated_lawful r.count r.last (take r.last r.capacities) (take r.count r.dues) (take r.count r.rates) r.few (timely_bounded r.last (take r.count r.dues) r.most r.timely) (front_bounded r.count 32 1000000 r.rates r.priced r.few r.cheap) };
 
-    fn fits(&self, batches: usize, periods: usize) -> bool {
-        batches == self.count as usize && periods == self.last as usize
+    fn fits(&self, size: Size) -> bool {
+        size.batches == self.count as usize && size.periods == self.last as usize
     }
 
     fn floor(&self, windows: &Windows) -> u64 {
@@ -180,7 +165,7 @@ impl Rule for Rated {
     }
 
     fn narrow(&self, windows: &mut Windows, limit: u64) -> Result<(), Refusal> {
-        if !self.fits(windows.batches(), windows.periods()) {
+        if !self.fits(windows.size()) {
             return Err(Refusal::Unfit);
         }
         if limit > MAX_CHARGE {

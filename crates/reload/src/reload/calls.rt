@@ -11,9 +11,9 @@ ghost use Rattle.reload.specs.Held.{charges_low};
 
 use crate::reload::Reload;
 use crate::schedule::{apart, places, some_wide};
-use crate::table::{breaks_kinds, charge_table, some_above, some_own};
+use crate::table::{breaks_kinds, some_above, some_own};
 use rule::{MAX_CHARGE, Rule, padded, some_outside};
-use windows::{Refusal, Windows, breaks_size};
+use windows::{Refusal, Size, Windows};
 
 impl Reload {
     // No batches, one period, and one kind.
@@ -32,18 +32,17 @@ impl Reload {
     // Loads the kind of each batch, and the charge from each kind to each: those from kind 1 first.
     pub fn fill(
         &mut self,
-        batches: usize,
-        periods: usize,
+        size: Size,
         kinds_count: usize,
         kinds: &[u8],
         charges: &[u16],
     ) -> Result<(), Refusal>
-        ensures { Loaded reload_of (reload_checks batches periods kinds_count kinds.now charges.now) (reload batches periods kinds_count kinds.now charges.now) self.old self.new result }
+        ensures { Loaded reload_of (reload_checks size.batches size.periods kinds_count kinds.now charges.now) (reload size.batches size.periods kinds_count kinds.now charges.now) self.old self.new result }
     {
-        if breaks_size(batches, periods) || breaks_kinds(kinds_count) {
+        if size.breaks_limits() || breaks_kinds(kinds_count) {
             return Err(Refusal::Limit);
         }
-        if kinds.len() != batches || charges.len() != kinds_count * kinds_count {
+        if kinds.len() != size.batches || charges.len() != kinds_count * kinds_count {
             return Err(Refusal::ListLength);
         }
         if some_outside(kinds, 1, kinds_count as u8)
@@ -53,11 +52,11 @@ impl Reload {
             return Err(Refusal::Entry);
         }
         *self = Reload {
-            count: batches as u8,
-            last: periods as u8,
+            count: size.batches as u8,
+            last: size.periods as u8,
             kinds_count: kinds_count as u8,
-            kinds: padded(kinds),
-            charges: charge_table(charges),
+            kinds: padded(kinds, 0),
+            charges: padded(charges, 0),
         };
         Ok(())
     }
@@ -124,12 +123,12 @@ impl Rule for Reload {
 
     ghost lawful = { λ r. reload_lawful r.count r.last r.kinds_count _ _ r.few r.most (charges_low r) };
 
-    fn fits(&self, batches: usize, periods: usize) -> bool {
-        batches == self.count as usize && periods == self.last as usize
+    fn fits(&self, size: Size) -> bool {
+        size.batches == self.count as usize && size.periods == self.last as usize
     }
 
     fn floor(&self, windows: &Windows) -> u64 {
-        if !self.fits(windows.batches(), windows.periods()) {
+        if !self.fits(windows.size()) {
             return MAX_CHARGE;
         }
         if some_wide(windows) {
@@ -139,7 +138,7 @@ impl Rule for Reload {
     }
 
     fn narrow(&self, windows: &mut Windows, limit: u64) -> Result<(), Refusal> {
-        if !self.fits(windows.batches(), windows.periods()) {
+        if !self.fits(windows.size()) {
             return Err(Refusal::Unfit);
         }
         if limit > MAX_CHARGE {

@@ -1,11 +1,11 @@
 // The calls on a search.
 ghost use Rattle.std.specs.Prelude.{◌≡◌, [], length};
-ghost use Rattle.windows.specs.Refusals.{struck};
+ghost use Rattle.windows.specs.Refusals.{struck, Judged};
 ghost use Rattle.windows.specs.Filling.{set_of};
 ghost use Rattle.runs.specs.Run.{fresh, refusal, «open», step, tighten, read, step_answer};
 ghost use Rattle.runs.specs.Law.{Upheld};
 ghost use Rattle.search.specs.Held.{state};
-ghost use Rattle.search.specs.Promises.{checked, Judged, Goes, Answers, Reads};
+ghost use Rattle.search.specs.Promises.{checked, Goes, Answers, Reads};
 
 use crate::inner::Inner;
 use crate::request::Request;
@@ -38,9 +38,9 @@ impl<R: Rule> Search<R> {
         ensures { Judged (struck (checked (R.Rule.meaning self.now.rule) (state self.now.inner) call)) result }
     {
         match (self.inner.phase, call) {
-            (_, Request::Open(n, periods, _)) if !self.rule.fits(n, periods) => Err(Refusal::Unfit),
-            (_, Request::Open(_, _, limit)) if limit > MAX_CHARGE => Err(Refusal::CapTooHigh),
-            (_, Request::Open(_, _, _)) => Ok(()),
+            (_, Request::Open(size, _)) if !self.rule.fits(size) => Err(Refusal::Unfit),
+            (_, Request::Open(_, limit)) if limit > MAX_CHARGE => Err(Refusal::CapTooHigh),
+            (_, Request::Open(_, _)) => Ok(()),
             (_, Request::Tighten(limit)) if limit > MAX_CHARGE => Err(Refusal::CapTooHigh),
             (Phase::Idle, _) => Err(Refusal::Idle),
             (Phase::Done, Request::Step) => Err(Refusal::Done),
@@ -57,11 +57,7 @@ impl<R: Rule> Search<R> {
         ensures goes { Goes (R.Rule.meaning self.old.rule) («open» (set_of windows.now) limit) (state self.old.inner) (state self.new.inner) }
         ensures answer { Answers (refusal (R.Rule.meaning self.old.rule) (state self.old.inner) («open» (set_of windows.now) limit)) (λ _. Unit {0}) (self.new ≡ self.old) result }
     {
-        if let Err(refusal) = self.judge(Request::Open(
-            windows.batches(),
-            windows.periods(),
-            limit,
-        )) {
+        if let Err(refusal) = self.judge(Request::Open(windows.size(), limit)) {
             return Err(refusal);
         }
         self.start(windows, limit);

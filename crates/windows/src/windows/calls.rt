@@ -1,18 +1,12 @@
 // The calls on a set of windows.
 ghost use Rattle.std.specs.Prelude.{◌≡◌, length};
-ghost use Rattle.windows.specs.Filling.{set_of, blank, window_asked, out_of_size, bad, some_bad, fill_checks, Filled};
-ghost use Rattle.windows.specs.Refusals.{refused_by, struck};
+ghost use Rattle.windows.specs.Filling.{set_of, blank, window_asked, bad, some_bad, fill_checks, Filled};
+ghost use Rattle.windows.specs.Refusals.{struck, Judged};
 
 use crate::refusal::Refusal;
+use crate::size::Size;
 use crate::window::Window;
 use crate::windows::Windows;
-
-// Whether the numbers of batches and periods break their limits: at most 32 batches, 1 to 64 periods.
-pub fn breaks_size(batches: usize, periods: usize) -> bool
-    ensures { result ≡ out_of_size batches periods }
-{
-    batches > 32 || periods < 1 || periods > 64
-}
 
 // Whether a window is empty or leaves the periods.
 fn bad_window(periods: u8, earliest: u8, latest: u8) -> bool
@@ -26,28 +20,23 @@ fn some_bad_window(periods: u8, earliest: &[u8], latest: &[u8]) -> bool
     requires { length earliest.now ≡ length latest.now }
     ensures { result ≡ some_bad periods earliest.now latest.now }
 {
-    for k in 0..earliest.len() {
-        if bad_window(periods, earliest[k], latest[k]) {
-            return true;
-        }
-    }
-    false
+    earliest.iter().zip(latest).any(|(&earliest, &latest)| bad_window(periods, earliest, latest))
 }
 
-// The first check of a fill that strikes.
-fn fill_refusal(batches: usize, periods: usize, earliest: &[u8], latest: &[u8]) -> Option<Refusal>
-    ensures { refused_by result ≡ struck (fill_checks batches periods earliest.now latest.now) }
+// Judges a fill by the checks in their order.
+fn judge(size: Size, earliest: &[u8], latest: &[u8]) -> Result<(), Refusal>
+    ensures { Judged (struck (fill_checks size.batches size.periods earliest.now latest.now)) result }
 {
-    if breaks_size(batches, periods) {
-        return Some(Refusal::Limit);
+    if size.breaks_limits() {
+        return Err(Refusal::Limit);
     }
-    if earliest.len() != batches || latest.len() != batches {
-        return Some(Refusal::ListLength);
+    if earliest.len() != size.batches || latest.len() != size.batches {
+        return Err(Refusal::ListLength);
     }
-    if some_bad_window(periods as u8, earliest, latest) {
-        return Some(Refusal::BadWindow);
+    if some_bad_window(size.periods as u8, earliest, latest) {
+        return Err(Refusal::BadWindow);
     }
-    None
+    Ok(())
 }
 
 impl Windows {
@@ -79,43 +68,48 @@ impl Windows {
         self.last as usize
     }
 
+    // How many batches and periods there are.
+    pub fn size(&self) -> Size
+        ensures batches { result.batches ≡ length (set_of self.now).each }
+        ensures periods { result.periods ≡ (set_of self.now).periods }
+    {
+        Size::new(self.batches(), self.periods())
+    }
+
+    // The windows of the batches, in order.
+    pub fn each(&self) -> &[Window]
+        ensures { result.now ≡ (set_of self.now).each }
+    {
+        &self.each[..self.count as usize]
+    }
+
     // The earliest and the latest period of a batch, numbered from 1.
     pub fn window(&self, batch: usize) -> Option<(u8, u8)>
         ensures { result ≡ window_asked (set_of self.now) batch }
     {
-        if batch < 1 || batch > self.count as usize {
-            return None;
-        }
-        let w = self.each[batch - 1];
-        Some((w.earliest, w.latest))
+        let place = batch.checked_sub(1)?;
+        let window = self.each().get(place)?;
+        Some((window.earliest, window.latest))
     }
 
     // Loads the windows of some batches from the lists of their earliest and their latest periods.
-    pub fn fill(
-        &mut self,
-        batches: usize,
-        periods: usize,
-        earliest: &[u8],
-        latest: &[u8],
-    ) -> Result<(), Refusal>
-        ensures { Filled batches periods earliest.now latest.now self.old self.new result }
+    pub fn fill(&mut self, size: Size, earliest: &[u8], latest: &[u8]) -> Result<(), Refusal>
+        ensures { Filled size.batches size.periods earliest.now latest.now self.old self.new result }
     {
-        if let Some(refusal) = fill_refusal(batches, periods, earliest, latest) {
-            return Err(refusal);
-        }
+        judge(size, earliest, latest)?;
         let mut each = [Window {
             earliest: 1,
             latest: 1,
         }; 32];
-        for k in 0..batches {
+        for (k, &earliest) in earliest.iter().enumerate() {
             each[k] = Window {
-                earliest: earliest[k],
+                earliest,
                 latest: latest[k],
             };
         }
         *self = Windows {
-            count: batches as u8,
-            last: periods as u8,
+            count: size.batches as u8,
+            last: size.periods as u8,
             each,
         };
         Ok(())

@@ -1,24 +1,18 @@
 // Windows cut in two, and windows written out.
-ghost use Rattle.std.specs.Prelude.{◌≡◌, length};
+ghost use Rattle.std.specs.Prelude.{◌≡◌, length, position};
 ghost use Rattle.windows.specs.Filling.{set_of};
-ghost use Rattle.windows.specs.Halves.{first_wide, SplitUp, first_periods, Wrote};
+ghost use Rattle.windows.specs.Halves.{wide, SplitUp, first_periods, Wrote};
 
 use crate::refusal::Refusal;
 use crate::window::Window;
 use crate::windows::Windows;
 
 impl Windows {
-    // The lowest-numbered batch with more than one period, counted from 0; the number of batches if there is none.
-    fn first_wide(&self) -> usize
-        ensures { result ≡ first_wide (set_of self.now).each }
+    // The lowest-numbered batch with more than one period, counted from 0, if there is one.
+    fn first_wide(&self) -> Option<usize>
+        ensures { result ≡ position wide (set_of self.now).each }
     {
-        let count = self.count as usize;
-        for k in 0..count {
-            if self.each[k].earliest < self.each[k].latest {
-                return k;
-            }
-        }
-        count
+        self.each().iter().position(|w| w.earliest < w.latest)
     }
 
     // Cuts the window of the lowest-numbered batch with more than one period after its middle: these windows keep the earlier
@@ -26,10 +20,7 @@ impl Windows {
     pub fn split(&mut self) -> Option<Windows>
         ensures { SplitUp self.old self.new result }
     {
-        let k = self.first_wide();
-        if k >= self.count as usize {
-            return None;
-        }
+        let k = self.first_wide()?;
         let Window { earliest, latest } = self.each[k];
         let middle = (earliest + latest) / 2;
         let mut later = *self;
@@ -48,12 +39,12 @@ impl Windows {
     pub fn write_earliest(&self, memory: &mut [u8]) -> Result<(), Refusal>
         ensures { Wrote (first_periods (set_of self.now).each) memory.old memory.new result }
     {
-        let count = self.count as usize;
-        if memory.len() < count {
+        let windows = self.each();
+        if memory.len() < windows.len() {
             return Err(Refusal::ShortMemory);
         }
-        for batch in 0..count {
-            memory[batch] = self.each[batch].earliest;
+        for (batch, window) in windows.iter().enumerate() {
+            memory[batch] = window.earliest;
         }
         Ok(())
     }

@@ -40,7 +40,7 @@ pub narrow_windows-requires : goal.narrow_windows-requires
 narrow_windows-requires c =
     let n = c.args.batches in
     let T = c.args.periods in
-    record { fits = ap (λ m. m.fits n T) c.in_default.ensures.1 ∙ same_fits n T; sized = sym c.if-breaks_size.ensures; starts = c.if-earliest-batches.false; ends = c.if-latest-batches.false }
+    record { fits = ap (λ m. m.fits n T) c.in_default.ensures.1 ∙ same_fits n T; sized = sym c.if-breaks_limits.ensures; starts = c.if-earliest-batches.false; ends = c.if-latest-batches.false }
 
 pub returns : goal.returns
 returns c =
@@ -49,4 +49,4 @@ returns c =
     let T = c.args.periods in
     let f = c.in_default.ensures in
     let q = filled _ _ _ (sym (judged a) ∙ f.0) in
-    answered _ n T c.args.limit _ _ c.args.earliest.now c.args.latest.now (sym c.if-breaks_size.ensures) _ c.narrow_windows.new.earliest c.narrow_windows.new.latest c.narrow_windows.result (f.1 ∙ ap (rated n T c.args.capacities.now c.args.dues.now) (paired-rates a)) q.0 q.1 c.narrow_windows.ensures
+    answered _ n T c.args.limit _ _ c.args.earliest.now c.args.latest.now (sym c.if-breaks_limits.ensures) _ c.narrow_windows.new.earliest c.narrow_windows.new.latest c.narrow_windows.result (f.1 ∙ ap (rated n T c.args.capacities.now c.args.dues.now) (paired-rates a)) q.0 q.1 c.narrow_windows.ensures

@@ -10,8 +10,7 @@ returns-in_default-ends_within c = (full_cut c.args.self.now c.args.windows.now 
 
 pub returns : goal.returns
 returns c =
-    let m = c.batches-n.result in
+    let m = c.size-size.result.batches in
     let e = c.in-Some-ends_within.ends in
-    let z : m - 0 ≡ m = omega arith in
-    filled_cut c.args.self.now c.args.windows.now c.in-Some.batches c.in-Some.ensures c.args.limit m c.periods.result (take (m - 0) e.earliest) (take (m - 0) e.latest) e
-    c.batches-n.ensures c.periods.ensures (ap (λ k. take k e.earliest) z) (ap (λ k. take k e.latest) z) c.in-Some-ends_within.ensures c.fill.new.self c.fill.result c.fill.ensures
+    filled_cut c.args.self.now c.args.windows.now c.in-Some.batches c.in-Some.ensures c.args.limit m c.size-size.result.periods (take m e.earliest) (take m e.latest) e
+    c.size-size.ensures.batches c.size-size.ensures.periods refl refl c.in-Some-ends_within.ensures c.fill.new.self c.fill.result c.fill.ensures

@@ -6,7 +6,7 @@ use Rattle.flat.proofs.slots.Slots.fill.Goals as goal
 
 pub invariant_of-self : goal.invariant_of-self
 invariant_of-self c =
-    let ok = slots_accepted c.args.batches c.args.periods c.args.capacities.now c.in_default.ensures in
+    let ok = slots_accepted c.args.size.batches c.args.size.periods c.args.capacities.now c.in_default.ensures in
     record {
       long = ap length c.padded.ensures ∙ length_padded 64 c.args.capacities.now;
       few = ok.few;
@@ -16,8 +16,8 @@ invariant_of-self c =
 
 pub returns : goal.returns
 returns c =
-    let n = c.args.batches in
-    let T = c.args.periods in
+    let n = c.args.size.batches in
+    let T = c.args.size.periods in
     let cs = c.args.capacities.now in
     let ok = slots_accepted n T cs c.in_default.ensures in
     (sym c.in_default.ensures, ap (slots n T) (ap (take T) c.padded.ensures ∙ padded_front 64 T cs ok.rooms ok.most))

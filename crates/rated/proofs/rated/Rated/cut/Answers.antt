@@ -32,11 +32,10 @@ returns c =
     let r = c.args.self.now in
     let w = c.args.windows.now in
     let h = c.narrow.new.windows in
-    let m = c.batches-n.result in
+    let m = c.size-size.result.batches in
     let p = c.in-Some-first_affordable.earliest in
     let q = c.in-Some-last_affordable.latest in
     let first = c.in-Some-first_affordable.ensures in
     let final = c.in-Some-last_affordable.ensures in
-    let z : m - 0 ≡ m = omega arith in
-    filled_cut r w h c.args.limit (hull_some r (flat_of c.unrated.result) w h c.unrated.ensures c.in-Ok.ensures) c.in-Some.batches c.in-Some.ensures m c.periods.result (take (m - 0) p) (take (m - 0) q) p q
-    c.batches-n.ensures c.periods.ensures (ap (λ k. take k p) z) (ap (λ k. take k q) z) (first.0, final.0) first.1 final.1 c.fill.new.self c.fill.result c.fill.ensures
+    filled_cut r w h c.args.limit (hull_some r (flat_of c.unrated.result) w h c.unrated.ensures c.in-Ok.ensures) c.in-Some.batches c.in-Some.ensures m c.size-size.result.periods (take m p) (take m q) p q
+    c.size-size.ensures.batches c.size-size.ensures.periods refl refl (first.0, final.0) first.1 final.1 c.fill.new.self c.fill.result c.fill.ensures

@@ -6,10 +6,10 @@ pub invariant_of-self : goal.invariant_of-self
 invariant_of-self c =
     let es = c.args.earliest.now in
     let ls = c.args.latest.now in
-    let T = c.args.periods in
-    let ok = accepted c.args.batches T es ls c.in_default.ensures in
-    let at = λ (k : ℕ) (h : k < c.args.batches). c.loop-k.invariant.1 k (omega arith) in
-    let good-at : (k : ℕ) → k < c.args.batches → Good T (get_or es k 0) (get_or ls k 0) =
+    let T = c.args.size.periods in
+    let ok = accepted c.args.size.batches T es ls (sym c.in_ok-judge.ensures) in
+    let at = λ (k : ℕ) (h : k < c.args.size.batches). c.loop-k.invariant.1 k (omega arith) in
+    let good-at : (k : ℕ) → k < c.args.size.batches → Good T (get_or es k 0) (get_or ls k 0) =
     λ k h. good T (get_or es k 0) (get_or ls k 0) (each_good T es ls (omega (arith, ok.starts, ok.ends)) ok.good k (omega (arith, ok.starts))) in record {
       long = c.loop-k.invariant.0;
       few = ok.few;
@@ -24,9 +24,9 @@ pub returns : goal.returns
 returns c =
     let es = c.args.earliest.now in
     let ls = c.args.latest.now in
-    let T = c.args.periods in
-    let n = c.args.batches in
-    let ok = accepted n T es ls c.in_default.ensures in (
-      sym c.in_default.ensures,
+    let T = c.args.size.periods in
+    let n = c.args.size.batches in
+    let ok = accepted n T es ls (sym c.in_ok-judge.ensures) in (
+      c.in_ok-judge.ensures,
       ap (λ ws. record { periods = T; each = ws }) (pairs_taken n c.loop-k.each es ls (omega (arith, c.loop-k.invariant.0, ok.few)) ok.starts ok.ends (λ k h. c.loop-k.invariant.1 k (omega arith))),
     )

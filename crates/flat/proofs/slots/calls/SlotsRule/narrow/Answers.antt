@@ -23,7 +23,7 @@ returns c =
     let w = c.args.windows.now in
     let n = s.count in
     let ds : List ℕ = take n (replicate 32 64) in
-    let fits = fit_known true n s.last (length (set_of w).each) w.last c.batches.result c.periods.result c.if-not-fits.ensures c.batches.ensures c.periods.ensures in
+    let fits = fit_known true n s.last (length (set_of w).each) w.last c.size.result.batches c.size.result.periods c.if-not-fits.ensures c.size.ensures.batches c.size.ensures.periods in
     let long : length ds ≡ n = length-take-le {A = ℕ} n (replicate 32 64) (omega (arith, s.few)) in
     let same = slots_cut n s.last (take s.last s.capacities) ds (set_of w) c.args.limit (held_proper w) (long ∙ sym (same_size_parts n s.last (length (set_of w).each) w.last fits).0)
     (λ k h. get_or-take {A = ℕ} n (replicate 32 64) k 0 (omega (arith, long)) ∙ get_or-replicate {A = ℕ} 32 k 64 0 (omega (arith, long, s.few))) in

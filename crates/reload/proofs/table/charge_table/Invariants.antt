@@ -1,5 +1,0 @@
-use Rattle.std.proofs.Common.{◌≡◌, ℕ, ◌<◌, ◌≤◌, length, get_or}
-use Rattle.reload.proofs.table.charge_table.Given as goal
-
-abbrev pub invariant-loop-k : goal.invariant-loop-k
-invariant-loop-k l = (length l.table ≡ 64) × ((j : ℕ) → j < l.k → get_or l.table j 0 ≡ get_or l.charges j 0) × ((j : ℕ) → l.k ≤ j → get_or l.table j 0 ≡ 0)
