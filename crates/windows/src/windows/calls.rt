@@ -17,7 +17,6 @@ fn bad_window(periods: u8, earliest: u8, latest: u8) -> bool
 
 // Whether some window of the lists is bad.
 fn some_bad_window(periods: u8, earliest: &[u8], latest: &[u8]) -> bool
-    requires { length earliest.now ≡ length latest.now }
     ensures { result ≡ some_bad periods earliest.now latest.now }
 {
     earliest.iter().zip(latest).any(|(&earliest, &latest)| bad_window(periods, earliest, latest))
