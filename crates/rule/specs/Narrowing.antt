@@ -16,10 +16,8 @@ abbrev pub fitting : Meaning → WindowSet → Bool
 fitting m w = m.fits (length w.each) w.periods
 
 -- What is judged before a cut is asked for: the windows don't fit, or the cap is above C.
-abbrev pub first_checks : Meaning → ℕ → WindowSet → List (ℕ × Bool)
-first_checks m limit w =
-    (7, not (fitting m w)) ∷
-    ((8, nat_lt max_charge limit) ∷ [])
+abbrev pub first_checks : Bool → ℕ → List (ℕ × Bool)
+first_checks fits limit = (7, not fits) ∷ ((8, nat_lt max_charge limit) ∷ [])
 
 -- The windows don't fit, the cap is above C, or else the cut is none.
 abbrev pub narrow_checks : Meaning → ℕ → WindowSet → List (ℕ × Bool)

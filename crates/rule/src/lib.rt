@@ -4,13 +4,14 @@
 ghost use Rattle.std.specs.Prelude.{◌≡◌};
 ghost use Rattle.windows.specs.Filling.{set_of};
 ghost use Rattle.rule.specs.Meaning.{Meaning, Lawful};
-ghost use Rattle.rule.specs.Narrowing.{Narrowed, first_checks};
-ghost use Rattle.windows.specs.Refusals.{struck, Judged};
+ghost use Rattle.rule.specs.Narrowing.{Narrowed};
 
 use windows::{Refusal, Size, Windows};
 
+mod judging;
 mod tables;
 
+pub use judging::admit;
 pub use tables::{padded, some_outside};
 
 // The greatest charge and the greatest cap, in microampere-hours.
@@ -32,19 +33,6 @@ pub trait Rule {
     // Replaces the windows by the cut under a cap, or refuses and leaves them.
     fn narrow(&self, windows: &mut Windows, limit: u64) -> Result<(), Refusal>
         ensures { Narrowed (meaning self.now) limit windows.old windows.new result };
-
-    // Judges a narrowing before its cut: whether the windows fit, and the cap is not above the greatest charge.
-    final fn admit(&self, windows: &Windows, limit: u64) -> Result<(), Refusal>
-        ensures { Judged (struck (first_checks (meaning self.now) limit (set_of windows.now))) result }
-    {
-        if !self.fits(windows.size()) {
-            return Err(Refusal::Unfit);
-        }
-        if limit > MAX_CHARGE {
-            return Err(Refusal::CapTooHigh);
-        }
-        Ok(())
-    }
 
     ghost lawful: { (s : Self) → Lawful (meaning s) };
 }

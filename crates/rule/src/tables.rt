@@ -6,6 +6,7 @@ ghost use Rattle.rule.specs.Tables.{outside};
 pub fn some_outside(list: &[u8], least: u8, greatest: u8) -> bool
     ensures { result ≡ outside least greatest list.now }
 {
+    // a line for each type of entry: rates and charges have theirs beside their limits
     list.iter().any(|&entry| entry < least || entry > greatest)
 }
 

@@ -6,7 +6,8 @@ use Rattle.std.proofs.lemmas.Bool.Decides.{nat_tests}
 use Rattle.windows.specs.declared.window.Window.{Window}
 use Rattle.windows.specs.WindowSets.{window, nowhere}
 use Rattle.windows.specs.Refusals.{struck}
-use Rattle.windows.specs.Filling.{bad, some_bad, paired, out_of_size, fill_checks}
+use Rattle.windows.specs.Filling.{bad, some_bad, paired, fill_checks}
+use Rattle.windows.specs.Sizes.{out_of_size}
 
 pub bad_here : (T : ℕ) (es ls : List ℕ) (k : ℕ) → length es ≡ length ls → k < length es → bad T (get_or es k 0) (get_or ls k 0) ≡ true → some_bad T es ls ≡ true
 bad_here T [] ls k n h b = absurd (omega arith)
@@ -58,25 +59,15 @@ pairs_taken n ws es ls long a b h =
 pub fill_accepted : (n T : ℕ) (es ls : List ℕ) → out_of_size n T ≡ false → length es ≡ n → length ls ≡ n → some_bad T es ls ≡ false → struck (fill_checks n T es ls) ≡ 0
 fill_accepted n T es ls s a b g = grind (arith, nat_tests)
 
--- What an accepted fill was asked.
+-- What the lists of an accepted fill are.
 pub record Accepted (n T : ℕ) (es ls : List ℕ) : Type 0 where
-  pub few : n ≤ 32
-  pub some : 1 ≤ T
-  pub most : T ≤ 64
   pub starts : length es ≡ n
   pub ends : length ls ≡ n
   pub good : some_bad T es ls ≡ false
 
-pub accepted : (n T : ℕ) (es ls : List ℕ) → 0 ≡ struck (fill_checks n T es ls) → Accepted n T es ls
-accepted n T es ls e =
-    record {
-      few = grind (arith, nat_tests);
-      some = grind (arith, nat_tests);
-      most = grind (arith, nat_tests);
-      starts = grind (arith, nat_tests);
-      ends = grind (arith, nat_tests);
-      good = grind (arith, nat_tests);
-    }
+pub accepted : (n T : ℕ) (es ls : List ℕ) → struck (fill_checks n T es ls) ≡ 0 → Accepted n T es ls
+accepted n T es ls e = record { starts = grind (arith, nat_tests); ends = grind (arith, nat_tests); good = grind (arith, nat_tests) }
 
-pub size_known : (n T : ℕ) → out_of_size n T ≡ false → (n ≤ 32) × (1 ≤ T) × (T ≤ 64)
-size_known n T h = (grind (arith, nat_tests), grind (arith, nat_tests), grind (arith, nat_tests))
+-- What is said of an extent is said of the size that it holds.
+pub at_extent : {X : Type 0} (f : ℕ → ℕ → X) (n T m P : ℕ) → m ≡ n → P ≡ T → f m P ≡ f n T
+at_extent f n T m P p q = ap (λ k. f k P) p ∙ ap (f n) q

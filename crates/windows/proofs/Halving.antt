@@ -40,23 +40,23 @@ wide_at (w ∷ ws) h = go (ltb w.earliest w.latest) refl h (wide_at ws)
     go false e l t = t (le_of_suc-le-suc l)
 
 -- The ends of a window that a value holds.
-pub earliest_held : (w : Windows) (k : ℕ) → k < w.count → earliest_of (set_of w).each k ≡ earliest_of w.each k
-earliest_held w k h = ap (λ (v : Window). v.earliest) (get_or-take w.count w.each k nowhere h)
+pub earliest_held : (w : Windows) (k : ℕ) → k < w.extent.batches → earliest_of (set_of w).each k ≡ earliest_of w.each k
+earliest_held w k h = ap (λ (v : Window). v.earliest) (get_or-take w.extent.batches w.each k nowhere h)
 
-pub latest_held : (w : Windows) (k : ℕ) → k < w.count → latest_of (set_of w).each k ≡ latest_of w.each k
-latest_held w k h = ap (λ (v : Window). v.latest) (get_or-take w.count w.each k nowhere h)
+pub latest_held : (w : Windows) (k : ℕ) → k < w.extent.batches → latest_of (set_of w).each k ≡ latest_of w.each k
+latest_held w k h = ap (λ (v : Window). v.latest) (get_or-take w.extent.batches w.each k nowhere h)
 
 -- The first wide window of a value has more than one period, and a half of it written is a half of the windows.
 module _ (w : Windows) (k : ℕ) where
-  pub wide_held : k ≡ first_wide (set_of w).each → k < w.count → earliest_of w.each k < latest_of w.each k
+  pub wide_held : k ≡ first_wide (set_of w).each → k < w.extent.batches → earliest_of w.each k < latest_of w.each k
   wide_held is h =
       let e : earliest_of (set_of w).each k < latest_of (set_of w).each k = subst (λ (j : ℕ). earliest_of (set_of w).each j < latest_of (set_of w).each j) (sym is) (wide_at (set_of w).each (omega (arith, held_length w))) in
       omega (arith, earliest_held w k h, latest_held w k h)
 
-  pub halved_held : (half : Window → Window) → k ≡ first_wide (set_of w).each → k < w.count → take w.count (set w.each k (half (get_or w.each k nowhere))) ≡ halved half (set_of w).each
+  pub halved_held : (half : Window → Window) → k ≡ first_wide (set_of w).each → k < w.extent.batches → take w.extent.batches (set w.each k (half (get_or w.each k nowhere))) ≡ halved half (set_of w).each
   halved_held half is h =
-      take-set-lt w.count w.each k (half (get_or w.each k nowhere)) h
-      ∙ ap (λ (v : Window). set (set_of w).each k (half v)) (sym (get_or-take w.count w.each k nowhere h))
+      take-set-lt w.extent.batches w.each k (half (get_or w.each k nowhere)) h
+      ∙ ap (λ (v : Window). set (set_of w).each k (half v)) (sym (get_or-take w.extent.batches w.each k nowhere h))
       ∙ ap (λ (j : ℕ). set (set_of w).each j (half (get_or (set_of w).each j nowhere))) is
 
 -- What holds of each of the first n windows still does after a write of a window of which it holds.

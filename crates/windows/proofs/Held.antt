@@ -7,22 +7,23 @@ use Rattle.windows.specs.declared.refusal.Refusal.TheVariants.{SheetLength, Vers
 use Rattle.windows.specs.declared.windows.Windows.{Windows}
 use Rattle.windows.specs.Refusals.{number, struck}
 use Rattle.windows.specs.WindowSets.{Proper, nowhere}
-use Rattle.windows.specs.Filling.{set_of, paired, fill_checks, out_of_size}
+use Rattle.windows.specs.Filling.{set_of, paired, fill_checks}
+use Rattle.windows.specs.Sizes.{out_of_size}
 use Rattle.windows.proofs.Fills.{none_bad, not_good, paired_at, length_paired, fill_accepted}
 
-pub held_length : (w : Windows) → length (set_of w).each ≡ w.count
-held_length w = length-take-le w.count w.each (omega arith)
+pub held_length : (w : Windows) → length (set_of w).each ≡ w.extent.batches
+held_length w = length-take-le w.extent.batches w.each (omega arith)
 
 pub held_proper : (w : Windows) → Proper (set_of w)
 held_proper w =
     let n = held_length w in
     record {
-      some = w.some;
-      most = w.most;
-      few = omega (arith, w.few);
-      starts = λ k h. (let c : k < w.count = omega arith in omega (arith, w.starts k c, ap (λ v. v.earliest) (get_or-take w.count w.each k nowhere c)));
-      holds = λ k h. (let c : k < w.count = omega arith in let e = get_or-take w.count w.each k nowhere c in omega (arith, w.holds k c, ap (λ v. v.earliest) e, ap (λ v. v.latest) e));
-      ends = λ k h. (let c : k < w.count = omega arith in omega (arith, w.ends k c, ap (λ v. v.latest) (get_or-take w.count w.each k nowhere c)));
+      some = w.extent.some;
+      most = w.extent.most;
+      few = omega (arith, w.extent.few);
+      starts = λ k h. (let c : k < w.extent.batches = omega arith in omega (arith, w.starts k c, ap (λ v. v.earliest) (get_or-take w.extent.batches w.each k nowhere c)));
+      holds = λ k h. (let c : k < w.extent.batches = omega arith in let e = get_or-take w.extent.batches w.each k nowhere c in omega (arith, w.holds k c, ap (λ v. v.earliest) e, ap (λ v. v.latest) e));
+      ends = λ k h. (let c : k < w.extent.batches = omega arith in omega (arith, w.ends k c, ap (λ v. v.latest) (get_or-take w.extent.batches w.each k nowhere c)));
     }
 
 -- Lists that give a proper set are accepted.

@@ -31,6 +31,9 @@ lies_high l = l.not_after 0 (omega arith)
 pub lies_empty : {A : Type 0} {w : Window} {ws : List Window} → Lies [] (w ∷ ws) → A
 lies_empty l = absurd (let e = l.same_size in omega arith)
 
+pub inside_tail : {v w : Window} {vs ws : List Window} → Inside (v ∷ vs) (w ∷ ws) → Inside vs ws
+inside_tail i = record { same_size = suc_inj i.same_size; not_before = λ k h. i.not_before (suc k) (suc-le-suc h); not_after = λ k h. i.not_after (suc k) (suc-le-suc h) }
+
 pub proper_inside : (v w : WindowSet) → Proper w → v.periods ≡ w.periods → Inside v.each w.each → Nonempty v.each → Proper v
 proper_inside v w p e i h =
     let n = i.same_size in

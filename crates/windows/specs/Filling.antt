@@ -4,12 +4,13 @@ use Rattle.std.specs.List.{list_any, zip}
 use Rattle.windows.specs.declared.refusal.Refusal.{Refusal}
 use Rattle.windows.specs.declared.window.Window.{Window}
 use Rattle.windows.specs.declared.windows.Windows.{Windows}
+use Rattle.windows.specs.Sizes.{out_of_size}
 use Rattle.windows.specs.Refusals.{number, struck}
 use Rattle.windows.specs.WindowSets.{WindowSet, window, earliest_of, latest_of}
 
 -- The set of windows that a value holds.
 abbrev pub set_of : Windows → WindowSet
-set_of w = record { periods = w.last; each = take w.count w.each }
+set_of w = record { periods = w.extent.periods; each = take w.extent.batches w.each }
 
 -- No batches and one period.
 abbrev pub blank : WindowSet
@@ -33,10 +34,7 @@ bad T e l = nat_lt e 1 || (nat_lt l e || nat_lt T l)
 abbrev pub some_bad : ℕ → List ℕ → List ℕ → Bool
 some_bad T es ls = list_any (λ p. bad T p.0 p.1) (zip es ls)
 
--- The limits of n and T.
-abbrev pub out_of_size : ℕ → ℕ → Bool
-out_of_size n T = nat_lt 32 n || (nat_lt T 1 || nat_lt 64 T)
-
+-- n and T, then the lengths of the lists, then each window.
 abbrev pub fill_checks : ℕ → ℕ → List ℕ → List ℕ → List (ℕ × Bool)
 fill_checks n T es ls =
     (3, out_of_size n T) ∷

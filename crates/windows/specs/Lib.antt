@@ -1,4 +1,5 @@
 pub mod Refusals
+pub mod Sizes
 pub mod WindowSets
 pub mod Schedules
 pub mod Hulls

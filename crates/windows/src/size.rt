@@ -1,6 +1,6 @@
 // How many batches and periods there are.
 ghost use Rattle.std.specs.Prelude.{◌≡◌};
-ghost use Rattle.windows.specs.Filling.{out_of_size};
+ghost use Rattle.windows.specs.Sizes.{out_of_size};
 
 // Numbers of batches and of periods, whatever they are: a call that takes them judges them.
 #[derive(Clone, Copy, Debug, PartialEq, Eq)]

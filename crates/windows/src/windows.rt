@@ -2,6 +2,7 @@
 ghost use Rattle.std.specs.Prelude.{◌≡◌, ℕ, ◌<◌, ◌≤◌, length};
 ghost use Rattle.windows.specs.WindowSets.{earliest_of, latest_of};
 
+use crate::extent::Extent;
 use crate::window::Window;
 
 mod calls;
@@ -10,14 +11,11 @@ mod parts;
 // One window for each of up to 32 batches, over up to 64 periods. No window is ever empty.
 #[derive(Clone, Copy)]
 pub struct Windows {
-    count: u8,
-    last: u8,
+    extent: Extent,
+    // no heap: an array, of which the batches that there are count
     each: [Window; 32],
     ghost long: { length each ≡ 32 },
-    ghost few: { count ≤ 32 },
-    ghost some: { 1 ≤ last },
-    ghost most: { last ≤ 64 },
-    ghost starts: { (k : ℕ) → k < count → 1 ≤ earliest_of each k },
-    ghost holds: { (k : ℕ) → k < count → earliest_of each k ≤ latest_of each k },
-    ghost ends: { (k : ℕ) → k < count → latest_of each k ≤ last },
+    ghost starts: { (k : ℕ) → k < extent.batches → 1 ≤ earliest_of each k },
+    ghost holds: { (k : ℕ) → k < extent.batches → earliest_of each k ≤ latest_of each k },
+    ghost ends: { (k : ℕ) → k < extent.batches → latest_of each k ≤ extent.periods },
 }

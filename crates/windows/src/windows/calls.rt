@@ -1,8 +1,9 @@
 // The calls on a set of windows.
 ghost use Rattle.std.specs.Prelude.{◌≡◌, length};
 ghost use Rattle.windows.specs.Filling.{set_of, blank, window_asked, bad, some_bad, fill_checks, Filled};
-ghost use Rattle.windows.specs.Refusals.{struck, Judged};
+ghost use Rattle.windows.specs.Sizes.{Sized};
 
+use crate::extent::Extent;
 use crate::refusal::Refusal;
 use crate::size::Size;
 use crate::window::Window;
@@ -23,19 +24,17 @@ fn some_bad_window(periods: u8, earliest: &[u8], latest: &[u8]) -> bool
 }
 
 // Judges a fill by the checks in their order.
-fn judge(size: Size, earliest: &[u8], latest: &[u8]) -> Result<(), Refusal>
-    ensures { Judged (struck (fill_checks size.batches size.periods earliest.now latest.now)) result }
+fn judge(size: Size, earliest: &[u8], latest: &[u8]) -> Result<Extent, Refusal>
+    ensures { Sized (fill_checks size.batches size.periods earliest.now latest.now) size result }
 {
-    if size.breaks_limits() {
-        return Err(Refusal::Limit);
-    }
+    let extent = Extent::try_from(size)?;
     if earliest.len() != size.batches || latest.len() != size.batches {
         return Err(Refusal::ListLength);
     }
-    if some_bad_window(size.periods as u8, earliest, latest) {
+    if some_bad_window(extent.periods, earliest, latest) {
         return Err(Refusal::BadWindow);
     }
-    Ok(())
+    Ok(extent)
 }
 
 impl Windows {
@@ -44,8 +43,10 @@ impl Windows {
         ensures { set_of result ≡ blank }
     {
         Windows {
-            count: 0,
-            last: 1,
+            extent: Extent {
+                batches: 0,
+                periods: 1,
+            },
             each: [Window {
                 earliest: 1,
                 latest: 1,
@@ -57,14 +58,14 @@ impl Windows {
     pub fn batches(&self) -> usize
         ensures { result ≡ length (set_of self.now).each }
     {
-        self.count as usize
+        self.extent.batches as usize
     }
 
     // How many periods there are.
     pub fn periods(&self) -> usize
         ensures { result ≡ (set_of self.now).periods }
     {
-        self.last as usize
+        self.extent.periods as usize
     }
 
     // How many batches and periods there are.
@@ -72,14 +73,14 @@ impl Windows {
         ensures batches { result.batches ≡ length (set_of self.now).each }
         ensures periods { result.periods ≡ (set_of self.now).periods }
     {
-        Size::new(self.batches(), self.periods())
+        Size::from(self.extent)
     }
 
     // The windows of the batches, in order.
     pub fn each(&self) -> &[Window]
         ensures { result.now ≡ (set_of self.now).each }
     {
-        &self.each[..self.count as usize]
+        &self.each[..self.extent.batches as usize]
     }
 
     // The earliest and the latest period of a batch, numbered from 1.
@@ -95,22 +96,19 @@ impl Windows {
     pub fn fill(&mut self, size: Size, earliest: &[u8], latest: &[u8]) -> Result<(), Refusal>
         ensures { Filled size.batches size.periods earliest.now latest.now self.old self.new result }
     {
-        judge(size, earliest, latest)?;
+        let extent = judge(size, earliest, latest)?;
         let mut each = [Window {
             earliest: 1,
             latest: 1,
         }; 32];
+        // by index: of what is written through a zip of tables nothing would be known
         for (k, &earliest) in earliest.iter().enumerate() {
             each[k] = Window {
                 earliest,
                 latest: latest[k],
             };
         }
-        *self = Windows {
-            count: size.batches as u8,
-            last: size.periods as u8,
-            each,
-        };
+        *self = Windows { extent, each };
         Ok(())
     }
 }

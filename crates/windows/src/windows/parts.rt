@@ -43,6 +43,7 @@ impl Windows {
         if memory.len() < windows.len() {
             return Err(Refusal::ShortMemory);
         }
+        // by index: of what is written through a zip of tables nothing would be known
         for (batch, window) in windows.iter().enumerate() {
             memory[batch] = window.earliest;
         }

@@ -14,17 +14,14 @@ invariant_of-later c =
     let w = c.args.self.now in
     let k = c.in_ok-k.k in
     let found = wide_found (set_of w).each k (sym c.in_ok-k.ensures) in
-    let h : k < w.count = omega (arith, found.1, held_length w) in
+    let h : k < w.extent.batches = omega (arith, found.1, held_length w) in
     let v = later_half (get_or w.each k nowhere) in
     let wide = wide_held w k found.0 h in
-    let in_table : k < length w.each = omega (arith, w.long, w.few) in record {
+    let in_table : k < length w.each = omega (arith, w.long, w.extent.few) in record {
       long = length-set w.each k v ∙ w.long;
-      few = w.few;
-      some = w.some;
-      most = w.most;
-      starts = each_set (λ u. 1 ≤ u.earliest) w.each w.count k v in_table (omega arith) w.starts;
-      holds = each_set (λ u. u.earliest ≤ u.latest) w.each w.count k v in_table (omega arith) w.holds;
-      ends = each_set (λ u. u.latest ≤ w.last) w.each w.count k v in_table (w.ends k h) w.ends;
+      starts = each_set (λ u. 1 ≤ u.earliest) w.each w.extent.batches k v in_table (omega arith) w.starts;
+      holds = each_set (λ u. u.earliest ≤ u.latest) w.each w.extent.batches k v in_table (omega arith) w.holds;
+      ends = each_set (λ u. u.latest ≤ w.extent.periods) w.each w.extent.batches k v in_table (w.ends k h) w.ends;
     }
 
 pub returns : goal.returns
@@ -33,8 +30,8 @@ returns c =
     let k = c.in_ok-k.k in
     let found = wide_found (set_of w).each k (sym c.in_ok-k.ensures) in
     let is = found.0 in
-    let h : k < w.count = omega (arith, found.1, held_length w) in
-    let over : List Window → WindowSet = λ ws. record { periods = w.last; each = ws } in
+    let h : k < w.extent.batches = omega (arith, found.1, held_length w) in
+    let over : List Window → WindowSet = λ ws. record { periods = w.extent.periods; each = ws } in
     (lt-leb _ _ (omega (arith, held_length w)), ap over (halved_held w k earlier_half is h), ap over (halved_held w k later_half is h))
 
 pub returns-in_err-k : goal.returns-in_err-k
