@@ -1,1 +1,1 @@
-pub mod Ranking
+pub mod Best

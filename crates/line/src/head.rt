@@ -8,14 +8,12 @@ use crate::waits::Waits;
 pub fn front<E: Waits>(line: &[E]) -> Option<usize>
     ensures { MatchOption result (length line.now ≡ 0) (λ p. Front E.leads line.now p) }
 {
-    if line.is_empty() {
-        return None;
-    }
-    let mut best = 0;
-    for i in 1..line.len() {
-        if line[i].ahead(&line[best]) {
-            best = i;
+    let mut best = None;
+    for (i, element) in line.iter().enumerate() {
+        match best {
+            Some(b) if !element.ahead(&line[b]) => {}
+            _ => best = Some(i),
         }
     }
-    Some(best)
+    best
 }

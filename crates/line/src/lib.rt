@@ -1,15 +1,15 @@
 #![tactic(auto)]
 
 mod batch;
-mod by_earliest;
-mod by_rate;
 mod head;
+mod rank;
+mod ranked;
 mod waits;
 
 pub use batch::Batch;
-pub use by_earliest::ByEarliest;
-pub use by_rate::ByRate;
 pub use head::front;
+pub use rank::{Earliest, Rank, Rate};
+pub use ranked::{ByEarliest, ByRate, Ranked};
 pub use waits::Waits;
 
 #[cfg(test)]

@@ -1,27 +1,20 @@
 use crate::*;
 
+fn batch(earliest: u8, rate: u32) -> Batch {
+    Batch {
+        earliest,
+        latest: 9,
+        due: 9,
+        rate,
+    }
+}
+
 fn earliest(earliest: u8, which: u8) -> ByEarliest {
-    ByEarliest::of(
-        Batch {
-            earliest,
-            latest: 9,
-            due: 9,
-            rate: 1,
-        },
-        which,
-    )
+    ByEarliest::of(batch(earliest, 1), which)
 }
 
 fn rate(rate: u32, which: u8) -> ByRate {
-    ByRate::of(
-        Batch {
-            earliest: 1,
-            latest: 9,
-            due: 9,
-            rate,
-        },
-        which,
-    )
+    ByRate::of(batch(1, rate), which)
 }
 
 #[test]
@@ -69,4 +62,11 @@ fn elements_tell_their_key_and_number(rt: HostRuntime) {
     assert!(rt; e.key() == 4 && e.number() == 31);
     let r = rate(4_000_000_000, 7);
     assert!(rt; r.key() == 4_000_000_000 && r.number() == 7);
+}
+
+#[test]
+fn a_batch_waits_until_it_is_due(rt: HostRuntime) {
+    let b = batch(1, 300);
+    assert!(rt; b.wait(4) == 5 && b.charge(4) == 1500);
+    assert!(rt; b.wait(9) == 0 && b.charge(10) == 0);
 }

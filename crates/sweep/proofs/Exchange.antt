@@ -162,9 +162,9 @@ module _ (n last : ℕ) (lo hi cap : ℕ → ℕ) (f : ℕ → ℕ → ℕ) wher
         );
       }
 
-  pub put : (t room b : ℕ) (p : List ℕ) → Sweep n last lo hi cap f t room p → 1 ≤ t → 1 ≤ room → b < n → get_or p b 0 ≡ 0 → t ≤ hi b →
-      ((u : ℕ) → u ≤ t → f b u ≤ f b t) → ((k : ℕ) → k < n → get_or p k 0 ≡ 0 → t ≤ hi k → Swaps lo f t b k) → Sweep n last lo hi cap f t (room - 1) (set p b t)
-  put t room b p s pos some inn pb high rises swaps =
+  pub put : (t room left b : ℕ) (p : List ℕ) → Sweep n last lo hi cap f t room p → 1 ≤ t → left + 1 ≡ room → b < n → get_or p b 0 ≡ 0 → t ≤ hi b →
+      ((u : ℕ) → u ≤ t → f b u ≤ f b t) → ((k : ℕ) → k < n → get_or p k 0 ≡ 0 → t ≤ hi k → Swaps lo f t b k) → Sweep n last lo hi cap f t left (set p b t)
+  put t room left b p s pos one inn pb high rises swaps =
       let inp : b < length p = omega (arith, s.long) in
       let low = s.low b inn pb in
       let other : (a : ℕ) → (a ≡ t → ⊥) → 1 ≤ a → count a (set p b t) ≡ count a p = λ a ne pa. omega (arith, count_set a p b t inp, hit_other a (get_or p b 0) (omega arith), hit_other a t (λ z. ne (sym z))) in

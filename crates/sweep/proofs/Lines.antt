@@ -1,5 +1,5 @@
 -- A waiting line that is filled in the order of the batches.
-use Rattle.std.proofs.Common.{◌≡◌, ℕ, ◌+◌, ◌<◌, ◌≤◌, Bool, false, List, length, get_or, take, set, sym, ap, ◌∙◌, subst, ⊎_elim, arith, get_or-set_other, get_or-set_same}
+use Rattle.std.proofs.Common.{◌≡◌, ℕ, ◌+◌, ◌<◌, ◌≤◌, Bool, false, List, length, get_or, take, set, sym, ap, ◌∙◌, subst, subst₂, ⊎_elim, arith, get_or-set_other, get_or-set_same}
 use Rattle.std.proofs.lemmas.List.{get_or-take, length-take-le}
 use Rattle.std.proofs.lemmas.Bool.{cases_eq}
 use Rattle.line.specs.Fronts.{Front}
@@ -33,25 +33,21 @@ module _ {X : Type 0} (made : ℕ → X) (waits : ℕ → Type 0) where
             (cases_eq j k);
       }
 
-  -- the front of the line stands for a batch that waits, and no batch that waits is ahead of it
-  pub line_front : (leads : X → X → Bool) (n m i : ℕ) (xs : List X) → Line made waits n m xs → m ≤ length xs → Front leads (take m xs) i →
-      (j : ℕ) × (j < n) × waits j × ((d : X) → get_or xs i d ≡ made j) × ((k : ℕ) → k < n → waits k → leads (made k) (made j) ≡ false)
-  line_front leads n m i xs l room front =
+  -- the number j of the front x of the line is that of a batch that waits, and no batch that waits is ahead of it
+  pub line_next : (leads : X → X → Bool) (number : X → ℕ) → ((j : ℕ) → number (made j) ≡ j) → (n m i : ℕ) (xs : List X) (x : X) (j : ℕ) →
+      Line made waits n m xs → m ≤ length xs → Front leads (take m xs) i → x ≡ get_or (take m xs) i x → j ≡ number x →
+      (j < n) × waits j × ((k : ℕ) → k < n → waits k → leads (made k) (made j) ≡ false)
+  line_next leads number numbered n m i xs x j l room front read told =
       let size = length-take-le m xs room in
       let inside : i < m = omega (arith, front.inside) in
-      let r = l.from i inside in (
-        r.0,
+      let r = l.from i inside in
+      let at : (d : X) → get_or (take m xs) i d ≡ made r.0 = λ d. get_or-take m xs i d inside ∙ r.3 d in
+      let own : j ≡ r.0 = told ∙ ap number (read ∙ at x) ∙ numbered r.0 in
+      subst (λ a. (a < n) × waits a × ((k : ℕ) → k < n → waits k → leads (made k) (made a) ≡ false)) (sym own) (
         r.1,
         r.2,
-        r.3,
         λ k h w.
             let q = l.has k h w in
             let d = made k in
-            let e = (get_or-take m xs q.0 d q.1 ∙ q.2 d) in
-            let e' = (get_or-take m xs i d inside ∙ r.3 d) in
-            subst (λ y. leads (made k) y ≡ false) e' (subst (λ x. leads x (get_or (take m xs) i d) ≡ false) e (front.unled q.0 d (omega (arith, q.1)))),
+            subst₂ (λ x y. leads x y ≡ false) (get_or-take m xs q.0 d q.1 ∙ q.2 d) (at d) (front.unled q.0 d (omega (arith, q.1))),
       )
-
--- the number of an element that is read from the line
-pub line_number : {X : Type 0} (number : X → ℕ) (xs : List X) (i j n : ℕ) (x y : X) → n ≡ number x → x ≡ get_or xs i x → ((d : X) → get_or xs i d ≡ y) → number y ≡ j → n ≡ j
-line_number number xs i j n x y e read is own = e ∙ ap number (read ∙ is x) ∙ own

@@ -1,17 +1,25 @@
 -- Batches with one window narrowed to a period.
-use Rattle.std.proofs.Common.{◌≡◌, ℕ, zero, suc, ◌-◌, ◌*◌, ◌<◌, ◌≤◌, List, [], ◌∷◌, length, get_or, take, set, Some, None, Option, sym, refl, ap, ◌∙◌, subst, ⊎_elim, arith, length-set, get_or-set_other, get_or-set_same, MatchOption}
+use Rattle.std.proofs.Common.{◌≡◌, ℕ, zero, suc, ◌-◌, ◌*◌, ◌≤◌, List, [], ◌∷◌, length, get_or, take, set, Some, None, Option, sym, refl, ap, ◌∙◌, subst, ⊎_elim, arith, slice_get, length-set, get_or-set_other, get_or-set_same, MatchOption}
 use lib.Seq.{take-set-lt}
 use Rattle.std.proofs.lemmas.Bool.{cases_eq}
+use Rattle.std.proofs.lemmas.Option.{slice_get_within, get_or_from_slice_get}
 use Rattle.line.specs.declared.batch.Batch.{Batch}
 use Rattle.sweep.specs.declared.batches.Batches.{Batches}
-use Rattle.sweep.specs.Charges.{no_batch, at, earliest_at, latest_at, Fits, Has, Impossible, cost, charge, Cheapest, Forced, narrowed, pinned}
+use Rattle.sweep.specs.Charges.{no_batch, at, earliest_at, latest_at, Fits, Has, Impossible, cost, charge, Cheapest, Forced, narrowed, InWindow, pinned}
 use Rattle.sweep.specs.Held.{listed}
-use Rattle.sweep.proofs.Sounds.{at_listed}
+use Rattle.sweep.proofs.Sounds.{length_listed}
 
--- the table of a copy lists the batches with one window narrowed
-pub pinned_listed : (b : Batches) (i v : ℕ) → i < b.count → take b.count (set b.each i (narrowed (at b.each i) v)) ≡ pinned (listed b) i v
-pinned_listed b i v h =
-    take-set-lt b.count b.each i (narrowed (at b.each i) v) h ∙ ap (λ a. set (listed b) i (narrowed a v)) (sym (at_listed b i h))
+-- a table in which one batch that is listed has a narrowed window lists the batches so
+pub pinned_listed : (b : Batches) (i v : ℕ) (o : Batch) → slice_get (listed b) i ≡ Some o → take b.count (set b.each i (narrowed o v)) ≡ pinned (listed b) i v
+pinned_listed b i v o e =
+    take-set-lt b.count b.each i (narrowed o v) (omega (arith, slice_get_within (listed b) i o e, length_listed b)) ∙
+    ap (λ a. set (listed b) i (narrowed a v)) (sym (get_or_from_slice_get (listed b) i o no_batch e))
+
+-- a batch that is listed has the periods of its window
+pub in_window : (bs : List Batch) (i v : ℕ) (o : Batch) → slice_get bs i ≡ Some o → o.earliest ≤ v → v ≤ o.latest → InWindow bs i v
+in_window bs i v o e low high =
+    let is = get_or_from_slice_get bs i o no_batch e in
+    (slice_get_within bs i o e, omega (arith, ap (λ b. b.earliest) is), omega (arith, ap (λ b. b.latest) is))
 
 -- what is charged does not depend on the windows
 cost_set : (f : Batch → ℕ → ℕ) (bs : List Batch) (i : ℕ) (b : Batch) → ((v : ℕ) → f b v ≡ f (at bs i) v) → (x : List ℕ) → cost f (set bs i b) x ≡ cost f bs x
@@ -21,9 +29,9 @@ cost_set f (a ∷ bs) zero b e (v ∷ x) = omega (arith, e v)
 cost_set f (a ∷ bs) (suc i) b e [] = refl
 cost_set f (a ∷ bs) (suc i) b e (v ∷ x) = omega (arith, cost_set f bs i b e x)
 
-module _ (bs : List Batch) (cs : List ℕ) (last i v : ℕ) (inside : i < length bs) (low : earliest_at bs i ≤ v) (high : v ≤ latest_at bs i) where
+module _ (bs : List Batch) (cs : List ℕ) (last i v : ℕ) (goes : InWindow bs i v) where
   here : at (pinned bs i v) i ≡ narrowed (at bs i) v
-  here = get_or-set_same bs i (narrowed (at bs i) v) no_batch inside
+  here = get_or-set_same bs i (narrowed (at bs i) v) no_batch goes.0
 
   other : (k : ℕ) → (k ≡ i → ⊥) → at (pinned bs i v) k ≡ at bs k
   other k ne = get_or-set_other bs i k (narrowed (at bs i) v) no_batch ne

@@ -1,27 +1,18 @@
 -- One batch taken out, with one place less in its period.
-use Rattle.std.proofs.Common.{◌≡◌, ℕ, zero, suc, ◌+◌, ◌-◌, ◌<◌, ◌≤◌, List, [], ◌∷◌, length, get_or, take, set, sym, ap, ◌∙◌, subst, ⊎_elim, arith, get_or-set_other, get_or-set_same}
-use Rattle.std.specs.List.{insert, remove}
-use Rattle.std.proofs.lemmas.List.Edits.{length-remove, get_or-remove_below, get_or-remove_above, length-insert, get_or-insert_below, get_or-insert_at, get_or-insert_above}
-use Rattle.std.proofs.lemmas.List.{get_or-take, length-take-le, ext_get_or}
+use Rattle.std.proofs.Common.{◌≡◌, ℕ, zero, suc, ◌+◌, ◌-◌, ◌<◌, ◌≤◌, List, [], ◌∷◌, length, get_or, take, set, sym, ap, ◌∙◌, ⊎_elim, arith, get_or-set_other, get_or-set_same}
+use Rattle.std.specs.List.{insert, remove, copy_within}
+use Rattle.std.proofs.lemmas.Grind.{common_steps}
+use Rattle.std.proofs.lemmas.List.Edits.{take-paste, length-remove, get_or-remove_below, get_or-remove_above, length-insert, get_or-insert_below, get_or-insert_at, get_or-insert_above}
+use Rattle.std.proofs.lemmas.List.{drop-take}
 use Rattle.std.proofs.lemmas.Bool.{cases_eq, cases_lt}
 use Rattle.windows.specs.Schedules.{count}
 use Rattle.line.specs.declared.batch.Batch.{Batch}
 use Rattle.sweep.specs.Charges.{no_batch, at, earliest_at, latest_at, capacity_at, cost, Fits, Has}
 use Rattle.sweep.proofs.Counts.{hit, hit_is, hit_other}
 
--- what holds of each batch holds of each that is left
-pub each_removed : (P : Batch → Type 0) (bs : List Batch) (i : ℕ) → i < length bs → ((k : ℕ) → k < length bs → P (at bs k)) → (k : ℕ) → k < length (remove bs i) → P (at (remove bs i) k)
-each_removed P bs i inside all k h =
-    ⊎_elim
-    (λ l. subst P (sym (get_or-remove_below bs i no_batch k l inside)) (all k (omega arith)))
-    (λ l. subst P (sym (get_or-remove_above bs i no_batch k l inside)) (all (k + 1) (omega (arith, length-remove bs i inside))))
-    (cases_lt k i)
-
--- a table that begins with the batches that are left
-pub removed_listed : (bs each : List Batch) (i m : ℕ) → i < length bs → m + 1 ≡ length bs → m ≤ length each → ((k : ℕ) → k < m → at each k ≡ at (remove bs i) k) → take m each ≡ remove bs i
-removed_listed bs each i m inside one long is =
-    let l = length-take-le m each long in
-    ext_get_or no_batch (take m each) (remove bs i) (omega (arith, length-remove bs i inside)) (λ k h. get_or-take m each k no_batch (omega arith) ∙ is k (omega arith))
+-- a table in which the batches after one have moved up by one place begins with the batches that are left
+pub removed_copied : (bs : List Batch) (n i : ℕ) → i < n → n ≤ length bs → take (n - 1) (copy_within bs (i + 1) n i) ≡ remove (take n bs) i
+removed_copied bs n i inside long = grind (arith, common_steps, take-paste, drop-take)
 
 count_removed : (t : ℕ) (x : List ℕ) (i : ℕ) → i < length x → count t x ≡ count t (remove x i) + hit t (get_or x i 0)
 count_removed t [] i h = absurd (omega arith)

@@ -1,5 +1,7 @@
 -- A charge falls as a worth rises.
-use Rattle.std.proofs.Common.{◌≡◌, ℕ, zero, suc, ◌+◌, ◌-◌, ◌*◌, ◌<◌, ◌≤◌, Bool, List, [], ◌∷◌, length, get_or, take, Some, None, Option, sym, refl, ap, ◌∙◌, subst, mul-le-mul_right, mul-le-mul, zero-add, mul-add, arith, MatchOption}
+use Rattle.std.proofs.Common.{◌≡◌, ℕ, suc, ◌+◌, ◌-◌, ◌*◌, ◌<◌, ◌≤◌, Bool, List, [], ◌∷◌, length, get_or, take, Some, None, Option, sym, refl, ap, ◌∙◌, subst, mul-le-mul_right, zero-add, mul-add, arith, min, MatchOption, sum_by}
+use Rattle.std.specs.List.{zip}
+use Rattle.std.proofs.lemmas.List.Sums.{sum_by-cons}
 use Rattle.line.specs.declared.batch.Batch.{Batch}
 use Rattle.sweep.specs.Feasible.{total}
 use Rattle.sweep.specs.Charges.{at, cost, charge, Fits, Cheapest, Sound}
@@ -32,27 +34,20 @@ cost_total g [] (v ∷ x) e = absurd (omega arith)
 cost_total g (b ∷ bs) [] e = absurd (omega arith)
 cost_total g (b ∷ bs) (v ∷ x) e = omega (arith, cost_total g bs x (omega arith), total_shift (λ k v. g (at (b ∷ bs) k) v) 0 x)
 
-cost_suc : (g : Batch → ℕ → ℕ) (bs : List Batch) (x : List ℕ) (k : ℕ) → k < length bs → k < length x → cost g (take (suc k) bs) (take (suc k) x) ≡ cost g (take k bs) (take k x) + g (at bs k) (get_or x k 0)
-cost_suc g [] x k h l = absurd (omega arith)
-cost_suc g (b ∷ bs) [] k h l = absurd (omega arith)
-cost_suc g (b ∷ bs) (v ∷ x) zero h l = omega arith
-cost_suc g (b ∷ bs) (v ∷ x) (suc k) h l = omega (arith, cost_suc g bs x k (omega arith) (omega arith))
+-- a sum over the batches with their periods is a cost
+cost_sum : (g : Batch → ℕ → ℕ) (bs : List Batch) (x : List ℕ) → sum_by (λ (p : Batch × ℕ). g p.0 p.1) (zip bs x) ≡ cost g bs (take (length bs) x)
+cost_sum g [] x = refl
+cost_sum g (b ∷ bs) [] = refl
+cost_sum g (b ∷ bs) (v ∷ x) = omega (arith, cost_sum g bs x, sum_by-cons (λ (p : Batch × ℕ). g p.0 p.1) (b, v) (zip bs x))
 
--- one more batch waits
-pub wait_more : (bs : List Batch) (x : List ℕ) (k : ℕ) → k < length bs → k < length x → charge (λ _. 1) (take (k + 1) bs) (take (k + 1) x) ≡ charge (λ _. 1) (take k bs) (take k x) + ((at bs k).due - get_or x k 0)
-wait_more bs x k h l =
-    let next : k + 1 ≡ suc k = omega arith in
-    let e = cost_suc (λ b v. 1 * (b.due - v)) bs x k h l in
-    let s = ap (λ a. charge (λ _. 1) (take a bs) (take a x)) next in
-    omega (arith, e, s)
+pub charge_sum : (w : Batch → ℕ) (bs ls : List Batch) (x : List ℕ) → ls ≡ bs → sum_by (λ (p : Batch × ℕ). w p.0 * (p.0.due - p.1)) (zip ls x) ≡ charge w bs (take (length bs) x)
+charge_sum w bs ls x e = rw e (cost_sum (λ b v. w b * (b.due - v)) bs x)
 
--- what the types of a rate and of a number of periods make of a product
-pub charge_small : (r t : ℕ) → r ≤ 4294967295 → t ≤ 255 → r * t ≤ 1095216660225
-charge_small r t h l = mul-le-mul {n₁ = r} {m₁ = t} {n₂ = 4294967295} {m₂ = 255} h l
-
--- one more batch is charged
-pub charge_more : (w : Batch → ℕ) (bs : List Batch) (x : List ℕ) (k : ℕ) → k < length bs → k < length x → charge w (take (k + 1) bs) (take (k + 1) x) ≡ charge w (take k bs) (take k x) + w (at bs k) * ((at bs k).due - get_or x k 0)
-charge_more w bs x k h l = let next : k + 1 ≡ suc k = omega arith in ap (λ a. charge w (take a bs) (take a x)) next ∙ cost_suc (λ b v. w b * (b.due - v)) bs x k h l
+-- a sum over the batches with their periods, none of which gives more than m
+pub small_sum : (bs : List Batch) (x : List ℕ) (m : ℕ) (f : Batch × ℕ → ℕ) → sum_by (λ (p : Batch × ℕ). min (f p) m) (zip bs x) ≤ length bs * m
+small_sum [] x m f = omega arith
+small_sum (b ∷ bs) [] m f = omega arith
+small_sum (b ∷ bs) (v ∷ x) m f = omega (arith, small_sum bs x m f, sum_by-cons (λ (p : Batch × ℕ). min (f p) m) (b, v) (zip bs x))
 
 module _ {E : Type 0} (leads : E → E → Bool) (made : Batch → ℕ → E) (bs : List Batch) (cs : List ℕ) (last : ℕ) (w : Batch → ℕ)
     (sound : Sound (length bs) last bs) (suits : Suits leads made bs (λ k v. w (at bs k) * v)) where

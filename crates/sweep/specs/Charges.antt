@@ -67,12 +67,20 @@ opened b = record { earliest = 1; latest = b.latest; due = b.due; rate = b.rate 
 abbrev pub relaxed : List Batch → List Batch
 relaxed bs = map opened bs
 
+-- There is a batch i, and period v lies in its window.
+abbrev pub InWindow : List Batch → ℕ → ℕ → Type 0
+InWindow bs i v = (i < length bs) × (earliest_at bs i ≤ v) × (v ≤ latest_at bs i)
+
 -- A batch with its window narrowed to period v, and batches with the window of batch i narrowed.
 abbrev pub narrowed : Batch → ℕ → Batch
 narrowed b v = record { earliest = v; latest = v; due = b.due; rate = b.rate }
 
 abbrev pub pinned : List Batch → ℕ → ℕ → List Batch
 pinned bs i v = slice_set bs i (narrowed (at bs i) v)
+
+-- A batch over the periods 1 to last whose window is not empty, lies in the periods and ends by its due period.
+abbrev pub IsSound : ℕ → Batch → Type 0
+IsSound last b = (1 ≤ b.earliest) × (b.earliest ≤ b.latest) × (b.latest ≤ last) × (b.latest ≤ b.due)
 
 -- The first n batches of a list are sound over the periods 1 to last: there are at most 32 batches and 64 periods, no window
 -- is empty, all lie in the periods, and each ends by its batch's due period.

@@ -1,8 +1,7 @@
 -- What a value of the type of batches holds.
-use Rattle.std.specs.Prelude.{◌≡◌, ℕ, cond, List, length, take, Some, None, Option, nat_lt}
+use Rattle.std.specs.Prelude.{◌≡◌, ℕ, List, take, Option, slice_get}
 use Rattle.line.specs.declared.batch.Batch.{Batch}
 use Rattle.sweep.specs.declared.batches.Batches.{Batches}
-use Rattle.sweep.specs.Charges.{at}
 
 -- Its batches, in their order.
 abbrev pub listed : Batches → List Batch
@@ -20,4 +19,4 @@ pub record Holds (n last : ℕ) (bs : List Batch) (b : Batches) : Type 0 where
 
 -- The batch at k of a list; nothing past its end.
 abbrev pub batch_asked : List Batch → ℕ → Option Batch
-batch_asked bs k = cond (nat_lt k (length bs)) (Some (at bs k)) None
+batch_asked bs k = slice_get bs k

@@ -1,7 +1,6 @@
 #![tactic(auto)]
 
 mod batches;
-mod placing;
 
 pub use batches::Batches;
 

@@ -1,19 +1,17 @@
-use Rattle.std.proofs.Common.{◌≡◌, take, sym, ap, ◌∙◌, arith}
-use Rattle.sweep.specs.Charges.{charge}
+use Rattle.std.proofs.Common.{ℕ, ◌-◌, ◌*◌, ◌∙◌, rules}
+use Rattle.std.proofs.lemmas.Iterator.{YieldsList-from_slice, YieldsList-from_zip, YieldsList-from_map}
+use Rattle.std.proofs.lemmas.Iterator.Consumers.{YieldsList-at, sum_by_from_yields_List}
+use Rattle.std.specs.List.{zip}
+use Rattle.line.specs.declared.batch.Batch.{Batch}
 use Rattle.sweep.specs.Held.{listed}
-use Rattle.sweep.proofs.Sounds.{length_listed}
-use Rattle.sweep.proofs.Worths.{wait_more}
+use Rattle.sweep.proofs.Worths.{charge_sum}
 use Rattle.sweep.proofs.batches.Batches.waited.Goals as goal
-use Rattle.sweep.proofs.batches.Batches.waited.Goals.{then-placed-k, else-placed-k}
-
-pub loop-k-preserved : goal.loop-k-preserved
-loop-k-preserved c =
-    let e = wait_more c.args.self.now.each c.args.placed.now c.loop-k.k (omega arith) (omega arith) in
-    elim c.if-placed-k.branch [ then-placed-k w ↦ omega (arith, e, w.sum-is) | else-placed-k w ↦ omega (arith, e, w.sum-is) ]
 
 pub returns : goal.returns
 returns c =
-    let b = c.args.self.now in
-    let p = c.args.placed.now in
-    let all : c.loop-k.k ≡ b.count = omega arith in
-    c.loop-k.invariant.1 ∙ ap (λ a. charge (λ _. 1) (take a b.each) (take a p)) all ∙ ap (λ a. charge (λ _. 1) (listed b) (take a p)) (sym (length_listed b))
+    let bs = c.each.result.now in
+    let x = c.args.placed.now in
+    let h = λ (p : Batch × ℕ). 1 * (p.0.due - p.1) in
+    sum_by_from_yields_List h (zip bs x) _ _ c.sum.ensures.ran
+    (YieldsList-from_map _ h (YieldsList-at c.map.ensures.source (YieldsList-from_zip (YieldsList-from_slice bs cc) (YieldsList-from_slice x cc))) c.map.ensures.closure (λ x r q k. search rules)) ∙
+    charge_sum (λ _. 1) (listed c.args.self.now) bs x c.each.ensures.all

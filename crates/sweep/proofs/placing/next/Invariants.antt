@@ -1,7 +1,0 @@
-use Rattle.std.proofs.Common.{◌≡◌, length}
-use Rattle.sweep.specs.Turns.{Waiting, element}
-use Rattle.sweep.proofs.Lines.{Line}
-use Rattle.sweep.proofs.placing.next.Given as goal
-
-abbrev pub invariant-loop-k : goal.invariant-loop-k
-invariant-loop-k g l = (length l.line ≡ 32) × Line (element g.E.Waits.made l.batches) (Waiting l.batches l.placed l.t) l.k l.m l.line
