@@ -1,5 +1,7 @@
 -- Flat's floor and cut, from what is found for the clipped batches.
-use Rattle.std.proofs.Common.{◌≡◌, ℕ, ◌<◌, ◌≤◌, min, true, leb, List, length, get_or, take, Some, None, Ok, Err, Option, Result, sym, ap, ◌∙◌, subst, arith, MatchOption}
+use Rattle.std.proofs.Common.{◌≡◌, ℕ, ◌<◌, ◌≤◌, min, true, leb, List, length, get_or, take, Some, None, Ok, Err, Option, Result, sym, refl, ap, ◌∙◌, subst, arith, MatchOption}
+use Rattle.std.proofs.Props.{props}
+use Rattle.std.proofs.Math.Logic.{∥∥₁_elim}
 use Rattle.std.proofs.lemmas.List.{ext_get_or, get_or-take, length-take-le}
 use Rattle.std.proofs.lemmas.Bool.{and_parts}
 use Rattle.windows.specs.declared.refusal.Refusal.{Refusal}
@@ -8,10 +10,9 @@ use Rattle.windows.specs.declared.windows.Windows.{Windows}
 use Rattle.windows.specs.WindowSets.{WindowSet, Proper, earliest_of, latest_of}
 use Rattle.windows.specs.Hulls.{Hull, Passes}
 use Rattle.windows.specs.Filling.{set_of, paired, Filled}
-use Rattle.windows.proofs.Enumerated.{enumerated_is, enumerated_empty, enumerated_inside}
+use Rattle.windows.proofs.Enumerated.{enumerated_is, enumerated_empty, enumerated_inside, cheapest_is, cheapest_empty}
 use Rattle.windows.proofs.Fills.{paired_at, length_paired}
 use Rattle.windows.proofs.Held.{held_proper, fills, numbered}
-use Rattle.rule.specs.Meaning.{max_charge}
 use Rattle.rule.specs.Narrowing.{CutTo}
 use Rattle.line.specs.declared.batch.Batch.{Batch}
 use Rattle.sweep.specs.declared.batches.Batches.{Batches}
@@ -19,20 +20,20 @@ use Rattle.sweep.specs.Charges.{at, no_batch, Fits, Impossible, charge, Cheapest
 use Rattle.sweep.specs.Held.{listed, last_of, Holds}
 use Rattle.flat.specs.declared.flat.Flat.{Flat}
 use Rattle.flat.specs.declared.ends.Ends.{Ends}
+use Rattle.flat.specs.declared.ends.sought.Sought.{Sought}
 use Rattle.flat.specs.Tests.{same_size, waited}
-use Rattle.flat.specs.Rules.{flat_allows, flat_within}
+use Rattle.flat.specs.Rules.{flat_allows, flat_within, least_waited}
 use Rattle.flat.specs.Loading.{flat_of}
-use Rattle.flat.specs.Ends.{clipped, Clips, NothingAllowed, Good, Hulled}
+use Rattle.flat.specs.Ends.{clipped, Clips, NothingAllowed, Good, Supported, Hulled}
 use Rattle.flat.specs.Tested.{allowed, on_time_at, same_size_parts}
 use Rattle.flat.proofs.Clipped.{length_clipped, clipped_at, charge_clipped, fits_from, fits_to, cheap_from, cheap_to}
-use Rattle.flat.specs.Laws.{floor_is, floor_none}
 
 module _ (f : Flat) (w : Windows) where
   abbrev n : ℕ
-  n = f.slots.count
+  n = f.slots.extent.batches
 
   abbrev T : ℕ
-  T = f.slots.last
+  T = f.slots.extent.periods
 
   abbrev cs : List ℕ
   cs = f.slots.capacities
@@ -47,10 +48,10 @@ module _ (f : Flat) (w : Windows) where
   P = (set_of w).periods
 
   dated : length ds ≡ n
-  dated = length-take-le n f.dues (omega (arith, f.dated, f.slots.few))
+  dated = length-take-le n f.dues (omega (arith, f.dated, f.slots.extent.few))
 
   room : T ≤ length cs
-  room = omega (arith, f.slots.long, f.slots.most)
+  room = omega (arith, f.slots.long, f.slots.extent.most)
 
   -- A table of batches with the windows clipped.
   pub clips : same_size n T (length ws) P ≡ true → (m Q : ℕ) (each : List Batch) → m ≡ length ws → Q ≡ P → length each ≡ 32 →
@@ -98,8 +99,8 @@ module _ (f : Flat) (w : Windows) where
   pub none_cut : (limit : ℕ) → NothingAllowed f w → (flat_of f).cut (set_of w) limit ≡ None
   none_cut limit h = enumerated_empty (flat_within n T (take T cs) ds P limit) P ws (λ x ok. h x (ok.0, (and_parts (flat_allows n T (take T cs) ds P x) (leb (waited ds x) limit) ok.1).0))
 
-  pub none_floor : NothingAllowed f w → max_charge ≡ (flat_of f).floor (set_of w)
-  none_floor h = sym (floor_none (waited ds) (flat_allows n T (take T cs) ds P) ws h)
+  pub none_least : NothingAllowed f w → None ≡ least_waited n T (take T cs) ds (set_of w)
+  none_least h = sym (cheapest_empty (waited ds) (flat_allows n T (take T cs) ds P) ws h)
 
   module _ (b : Batches) (c : Clips f w b) where
     even : length ds ≡ length ws
@@ -114,28 +115,35 @@ module _ (f : Flat) (w : Windows) where
     cost : (x : List ℕ) → charge (λ _. 1) (listed b) x ≡ waited ds x
     cost x = ap (λ (l : List Batch). charge (λ _. 1) l x) c.batches ∙ charge_clipped ds ws x even
 
-    pub good_from : (limit : ℕ) (x : List ℕ) → Passes (flat_within n T (take T cs) ds P limit) ws x → Good b cs limit x
+    abbrev sought : ℕ → Sought
+    sought limit = record { batches = b; capacities = cs; limit = limit }
+
+    pub good_from : (limit : ℕ) (x : List ℕ) → Passes (flat_within n T (take T cs) ds P limit) ws x → Good (sought limit) x
     good_from limit x ok =
         let r = cheap_from n T P cs ds ws c.fits dated room limit x ok in
         record { fits = there x r.0; cheap = omega (arith, cost x, charge_clipped ds ws x even, r.1) }
 
-    good_to : (limit : ℕ) (x : List ℕ) → Good b cs limit x → Passes (flat_within n T (take T cs) ds P limit) ws x
+    good_to : (limit : ℕ) (x : List ℕ) → Good (sought limit) x → Passes (flat_within n T (take T cs) ds P limit) ws x
     good_to limit x g = cheap_to n T P cs ds ws c.fits dated room limit x (here x g.fits) (omega (arith, cost x, charge_clipped ds ws x even, g.cheap))
 
-    pub some_floor : (p : List ℕ) → Cheapest (λ _. 1) (listed b) cs (last_of b) p → charge (λ _. 1) (listed b) (take (length (listed b)) p) ≡ (flat_of f).floor (set_of w)
-    some_floor p h =
+    pub some_least : (p : List ℕ) → Cheapest (λ _. 1) (listed b) cs (last_of b) p → Some (charge (λ _. 1) (listed b) (take (length (listed b)) p)) ≡ least_waited n T (take T cs) ds (set_of w)
+    some_least p h =
         let x = take (length (listed b)) p in
-        cost x ∙ sym (floor_is (waited ds) (flat_allows n T (take T cs) ds P) ws x (fits_to n T P cs ds ws c.fits dated room x (here x h.fits))
-        (λ y ok. omega (arith, cost x, cost y, h.least y (there y (fits_from n T P cs ds ws c.fits dated room y ok)))))
+        ap Some (cost x) ∙ sym (cheapest_is (waited ds) (flat_allows n T (take T cs) ds P) ws (waited ds x) (record {
+          at = x;
+          passes = fits_to n T P cs ds ws c.fits dated room x (here x h.fits);
+          is = refl;
+          below = λ y ok. omega (arith, cost x, cost y, h.least y (there y (fits_from n T P cs ds ws c.fits dated room y ok)));
+        }))
 
-    pub full_floor : Impossible (listed b) cs (last_of b) → max_charge ≡ (flat_of f).floor (set_of w)
-    full_floor h = none_floor (λ x ok. h x (there x (fits_from n T P cs ds ws c.fits dated room x ok)))
+    pub full_least : Impossible (listed b) cs (last_of b) → None ≡ least_waited n T (take T cs) ds (set_of w)
+    full_least h = none_least (λ x ok. h x (there x (fits_from n T P cs ds ws c.fits dated room x ok)))
 
-    pub full_cut : (limit : ℕ) → ((x : List ℕ) → Good b cs limit x → ⊥) → (flat_of f).cut (set_of w) limit ≡ None
+    pub full_cut : (limit : ℕ) → ((x : List ℕ) → Good (sought limit) x → ⊥) → (flat_of f).cut (set_of w) limit ≡ None
     full_cut limit h = enumerated_empty (flat_within n T (take T cs) ds P limit) P ws (λ x ok. h x (good_from limit x ok))
 
     -- The ends found, as windows.
-    module _ (limit m Q : ℕ) (es ls : List ℕ) (e : Ends) (mn : m ≡ length ws) (qp : Q ≡ P) (low : es ≡ take m e.earliest) (high : ls ≡ take m e.latest) (h : Hulled b cs limit e) where
+    module _ (limit m Q : ℕ) (es ls : List ℕ) (e : Ends) (mn : m ≡ length ws) (qp : Q ≡ P) (low : es ≡ take m e.earliest) (high : ls ≡ take m e.latest) (h : Hulled (sought limit) e) where
       size : (length (listed b) ≡ m) × (length es ≡ m) × (length ls ≡ m)
       size =
           let few = (held_proper w).few in
@@ -155,21 +163,21 @@ module _ (f : Flat) (w : Windows) where
       long : length (paired es ls) ≡ m
       long = length_paired es ls level ∙ size.1
 
-      hulled : Hull (Passes (flat_within n T (take T cs) ds P limit) ws) (paired es ls)
-      hulled =
+      hulled : Supported (sought limit) e → Hull (Passes (flat_within n T (take T cs) ds P limit) ws) (paired es ls)
+      hulled ends =
           record {
             some = (h.some.0, good_to limit h.some.0 h.some.1);
             lies = λ x ok. record {
               same_size = omega (arith, ok.0.same_size, mn, long);
-              not_before = λ k i. omega (arith, at_low k (omega (arith, long)), h.above k (omega (arith, long, size)) x (good_from limit x ok));
-              not_after = λ k i. omega (arith, at_high k (omega (arith, long)), h.below k (omega (arith, long, size)) x (good_from limit x ok));
+              not_before = λ k i. omega (arith, at_low k (omega (arith, long)), (h.reached k (omega (arith, long, size)) x (good_from limit x ok)).0);
+              not_after = λ k i. omega (arith, at_high k (omega (arith, long)), (h.reached k (omega (arith, long, size)) x (good_from limit x ok)).1);
             };
-            first = λ k i. (let s = h.supported.first k (omega (arith, long, size)) in (s.0, good_to limit s.0 s.1, s.2 ∙ sym (at_low k (omega (arith, long)))));
-            final = λ k i. (let s = h.supported.final k (omega (arith, long, size)) in (s.0, good_to limit s.0 s.1, s.2 ∙ sym (at_high k (omega (arith, long)))));
+            first = λ k i. (let s = ends.first k (omega (arith, long, size)) in (s.0, good_to limit s.0 s.1, s.2 ∙ sym (at_low k (omega (arith, long)))));
+            final = λ k i. (let s = ends.final k (omega (arith, long, size)) in (s.0, good_to limit s.0 s.1, s.2 ∙ sym (at_high k (omega (arith, long)))));
           }
 
       is : (flat_of f).cut (set_of w) limit ≡ Some (record { periods = Q; each = paired es ls })
-      is = enumerated_is (flat_within n T (take T cs) ds P limit) P ws (paired es ls) hulled ∙ ap (λ (q : ℕ). Some (record { periods = q; each = paired es ls })) (sym qp)
+      is = ∥∥₁_elim h.supported (hlevel props) (λ ends. enumerated_is (flat_within n T (take T cs) ds P limit) P ws (paired es ls) (hulled ends) ∙ ap (λ (q : ℕ). Some (record { periods = q; each = paired es ls })) (sym qp))
 
       pub filled_cut : (v : Windows) (r : Result (Unit {0}) Refusal) → Filled m Q es ls w v r → CutTo ((flat_of f).cut (set_of w) limit) w v r
       filled_cut v (Ok u) g = is ∙ ap (λ (s : WindowSet). Some s) (sym g.1)

@@ -1,4 +1,4 @@
--- What the accepted fill calls were asked.
+-- What the accepted calls were asked.
 use Rattle.std.proofs.Common.{◌≡◌, ℕ, ◌≤◌, false, List, length, arith}
 use Rattle.std.proofs.lemmas.Bool.Decides.{nat_tests}
 use Rattle.windows.specs.Refusals.{struck}
@@ -11,7 +11,7 @@ pub record Slotted (n T : ℕ) (cs : List ℕ) : Type 0 where
   pub most : T ≤ 64
   pub rooms : length cs ≡ T
 
-pub slots_accepted : (n T : ℕ) (cs : List ℕ) → 0 ≡ struck (slots_checks n T cs) → Slotted n T cs
+pub slots_accepted : (n T : ℕ) (cs : List ℕ) → struck (slots_checks n T cs) ≡ 0 → Slotted n T cs
 slots_accepted n T cs e = record { few = grind (arith, nat_tests); some = grind (arith, nat_tests); most = grind (arith, nat_tests); rooms = grind (arith, nat_tests) }
 
 pub record Dated (n T : ℕ) (cs ds : List ℕ) : Type 0 where
@@ -22,7 +22,7 @@ pub record Dated (n T : ℕ) (cs ds : List ℕ) : Type 0 where
   pub dated : length ds ≡ n
   pub timely : outside 1 T ds ≡ false
 
-pub flat_accepted : (n T : ℕ) (cs ds : List ℕ) → 0 ≡ struck (flat_checks n T cs ds) → Dated n T cs ds
+pub flat_accepted : (n T : ℕ) (cs ds : List ℕ) → struck (flat_checks n T cs ds) ≡ 0 → Dated n T cs ds
 flat_accepted n T cs ds e =
     record {
       few = grind (arith, nat_tests);

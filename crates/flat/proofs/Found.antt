@@ -1,56 +1,44 @@
 -- Ends that are found by taking in one good schedule after the other.
-use Rattle.std.proofs.Common.{◌≡◌, ℕ, ◌<◌, ◌≤◌, min, max, List, length, get_or, take, sym, ap, ◌∙◌, subst, ⊎_elim, arith}
-use Rattle.std.proofs.lemmas.List.{get_or-take}
+use Rattle.std.proofs.Common.{◌≡◌, ℕ, ◌<◌, ◌≤◌, List, length, get_or, Some, None, Option, MatchOption, ap, ⊎_elim, arith}
+use Rattle.std.specs.Coded.{le_prop}
+use Rattle.std.proofs.Math.Logic.{∥∥₁_elim, ∥∥₁_map}
+use Rattle.std.proofs.lemmas.List.{get_or-take, length-take-le}
 use Rattle.std.proofs.lemmas.Bool.{cases_lt}
-use Rattle.sweep.specs.declared.batches.Batches.{Batches}
-use Rattle.sweep.specs.Charges.{Has}
-use Rattle.sweep.specs.Held.{listed}
+use Rattle.sweep.specs.Held.{listed, last_of}
 use Rattle.flat.specs.declared.ends.Ends.{Ends}
-use Rattle.flat.specs.Ends.{Good, Supported, Wider}
+use Rattle.flat.specs.declared.ends.sought.Sought.{Sought}
+use Rattle.flat.specs.Ends.{Good, placed_in, Earliest, Latest, Taken, Supported, Reached}
+use Rattle.flat.proofs.Outermost.{ends_at}
 
-module _ (b : Batches) (cs : List ℕ) (limit : ℕ) where
-  -- e is d with the schedule p taken in.
-  pub record Taken (d : Ends) (p : List ℕ) (e : Ends) : Type 0 where
-    pub first : (k : ℕ) → k < length (listed b) → get_or e.earliest k 0 ≡ min (get_or d.earliest k 0) (get_or p k 0)
-    pub final : (k : ℕ) → k < length (listed b) → get_or e.latest k 0 ≡ max (get_or d.latest k 0) (get_or p k 0)
+module _ (s : Sought) where
+  few : length (listed s.batches) ≤ 32
+  few = omega (arith, length-take-le s.batches.count s.batches.each (omega (arith, s.batches.long, s.batches.sound.few)), s.batches.sound.few)
 
-  pub taken_wider : (d e : Ends) (p : List ℕ) → Taken d p e → Wider (length (listed b)) d e
-  taken_wider d e p t k h = (omega (arith, t.first k h), omega (arith, t.final k h))
-
-  pub taken_supported : (d e : Ends) (p : List ℕ) → Taken d p e → Good b cs limit (take (length (listed b)) p) → Supported b cs limit d → Supported b cs limit e
+  taken_supported : (d e : Ends) (p : List ℕ) → Taken d p e → Good s (placed_in s p) → Supported s d → Supported s e
   taken_supported d e p t good ok =
       record {
         first = λ k h. ⊎_elim
-            (λ l. (take (length (listed b)) p, good, omega (arith, get_or-take (length (listed b)) p k 0 h, t.first k h)))
-            (λ l. (let s = ok.first k h in (s.0, s.1, omega (arith, s.2, t.first k h))))
+            (λ l. (placed_in s p, good, omega (arith, few, get_or-take (length (listed s.batches)) p k 0 h, t.first k)))
+            (λ l. (let o = ok.first k h in (o.0, o.1, omega (arith, few, o.2, t.first k))))
             (cases_lt (get_or p k 0) (get_or d.earliest k 0));
         final = λ k h. ⊎_elim
-            (λ l. (take (length (listed b)) p, good, omega (arith, get_or-take (length (listed b)) p k 0 h, t.final k h)))
-            (λ l. (let s = ok.final k h in (s.0, s.1, omega (arith, s.2, t.final k h))))
+            (λ l. (placed_in s p, good, omega (arith, few, get_or-take (length (listed s.batches)) p k 0 h, t.final k)))
+            (λ l. (let o = ok.final k h in (o.0, o.1, omega (arith, few, o.2, t.final k))))
             (cases_lt (get_or d.latest k 0) (get_or p k 0));
       }
 
-  -- The ends of one good schedule.
-  pub alone_supported : (e : Ends) (p : List ℕ) → e.earliest ≡ p → e.latest ≡ p → Good b cs limit (take (length (listed b)) p) → Supported b cs limit e
-  alone_supported e p low high good =
-      record {
-        first = λ k h. (take (length (listed b)) p, good, get_or-take (length (listed b)) p k 0 h ∙ ap (λ (l : List ℕ). get_or l k 0) (sym low));
-        final = λ k h. (take (length (listed b)) p, good, get_or-take (length (listed b)) p k 0 h ∙ ap (λ (l : List ℕ). get_or l k 0) (sym high));
-      }
+  pub still_supported : (d e : Ends) (p : List ℕ) → Taken d p e → Good s (placed_in s p) → ∥ Supported s d ∥₁ → ∥ Supported s e ∥₁
+  still_supported d e p t good ok = ∥∥₁_map ok (taken_supported d e p t good)
 
-  -- The schedule p, with batch i in period v, is taken into ends d that are those of the start, a.
-  module _ (a d e : Ends) (p : List ℕ) (i v : ℕ) (same : d ≡ a) (taken : Taken d p e) (good : Good b cs limit (take (length (listed b)) p)) (has : Has i v (take (length (listed b)) p)) (one : i < length (listed b)) (ok : Supported b cs limit a) where
-    pub took_supported : Supported b cs limit e
-    took_supported = taken_supported d e p taken good (subst (Supported b cs limit) (sym same) ok)
+  pub ends_inside : (e : Ends) (k : ℕ) → k < length (listed s.batches) → ∥ Supported s e ∥₁ → get_or e.latest k 0 ≤ last_of s.batches
+  ends_inside e k h ok = ∥∥₁_elim ok le_prop (λ o. (let x = o.final k h in omega (arith, x.2, ends_at s k h x.0 x.1)))
 
-    pub took_wider : Wider (length (listed b)) a e
-    took_wider = subst (λ (f : Ends). Wider (length (listed b)) f e) same (taken_wider d e p taken)
+  -- What one schedule that may be there leaves of the ends of batch i, which is as early, or as late, in it as in any.
+  module _ (d e : Ends) (i : ℕ) (one : i < length (listed s.batches)) where
+    pub held_earliest : (r : Option (List ℕ)) → MatchOption r ((x : List ℕ) → Good s x → get_or d.earliest i 0 ≤ get_or x i 0) (λ p. Earliest s i (placed_in s p)) → MatchOption r (e ≡ d) (λ p. Taken d p e) → (x : List ℕ) → Good s x → get_or e.earliest i 0 ≤ get_or x i 0
+    held_earliest None o held x good = omega (arith, ap (λ f. get_or f.earliest i 0) held, o x good)
+    held_earliest (Some p) o held x good = omega (arith, few, get_or-take (length (listed s.batches)) p i 0 one, held.first i, o.first x good)
 
-    took_at : get_or p i 0 ≡ v
-    took_at = sym (get_or-take (length (listed b)) p i 0 one) ∙ has.1
-
-    pub took_low : get_or e.earliest i 0 ≤ v
-    took_low = omega (arith, took_at, taken.first i one)
-
-    pub took_high : v ≤ get_or e.latest i 0
-    took_high = omega (arith, took_at, taken.final i one)
+    pub held_latest : (r : Option (List ℕ)) → MatchOption r ((x : List ℕ) → Good s x → get_or x i 0 ≤ get_or d.latest i 0) (λ p. Latest s i (placed_in s p)) → MatchOption r (e ≡ d) (λ p. Taken d p e) → ((x : List ℕ) → Good s x → get_or d.earliest i 0 ≤ get_or x i 0) → Reached s e i
+    held_latest None o held low x good = (omega (arith, ap (λ f. get_or f.earliest i 0) held, low x good), omega (arith, ap (λ f. get_or f.latest i 0) held, o x good))
+    held_latest (Some p) o held low x good = (omega (arith, few, held.first i, low x good), omega (arith, few, get_or-take (length (listed s.batches)) p i 0 one, held.final i, o.final x good))

@@ -1,6 +1,8 @@
 pub mod Fills
 pub mod Slotted
 pub mod Clipped
+pub mod Scans
+pub mod Outermost
+pub mod Made
 pub mod Found
-pub mod Held
 pub mod Cutting

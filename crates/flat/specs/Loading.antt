@@ -1,6 +1,6 @@
 -- What a rule was filled with, and the checks of the fill calls.
 use Rattle.std.specs.Prelude.{ℕ, Bool, not, ◌&&◌, ◌||◌, List, [], ◌∷◌, length, take, ◌==◌}
-use Rattle.windows.specs.Filling.{out_of_size}
+use Rattle.windows.specs.Sizes.{out_of_size}
 use Rattle.rule.specs.Meaning.{Meaning}
 use Rattle.rule.specs.Tables.{outside}
 use Rattle.flat.specs.declared.slots.Slots.{Slots}
@@ -9,10 +9,10 @@ use Rattle.flat.specs.Rules.{slots, flat}
 
 -- The meaning of the code's rules.
 abbrev pub slots_of : Slots → Meaning
-slots_of s = slots s.count s.last (take s.last s.capacities)
+slots_of s = slots s.extent.batches s.extent.periods (take s.extent.periods s.capacities)
 
 abbrev pub flat_of : Flat → Meaning
-flat_of f = flat f.slots.count f.slots.last (take f.slots.last f.slots.capacities) (take f.slots.count f.dues)
+flat_of f = flat f.slots.extent.batches f.slots.extent.periods (take f.slots.extent.periods f.slots.capacities) (take f.slots.extent.batches f.dues)
 
 -- n and T, then the lengths of the lists, then each capacity, 0 to 32, and each due period, 1 to T.
 abbrev pub slots_checks : ℕ → ℕ → List ℕ → List (ℕ × Bool)

@@ -1,13 +1,13 @@
 -- What Slots and Flat mean: n batches, T periods, capacities cs, due periods ds.
-use Rattle.std.specs.Prelude.{ℕ, Bool, cond, ◌&&◌, List, map, length, Some, None, Option, nat_le}
+use Rattle.std.specs.Prelude.{ℕ, Bool, cond, ◌&&◌, List, map, length, Option, nat_le, unwrap_or}
+use Rattle.windows.specs.WindowSets.{WindowSet}
 use Rattle.windows.specs.Schedules.{kept, schedules, hull, least}
 use Rattle.rule.specs.Meaning.{Meaning, max_charge}
 use Rattle.flat.specs.Tests.{same_size, within, on_time, waited}
 
 -- The least charge, or C where there is none.
 abbrev pub or_max : Option ℕ → ℕ
-or_max None = max_charge
-or_max (Some a) = a
+or_max o = unwrap_or o max_charge
 
 -- Slots allows at most c(t) batches in each period t.
 abbrev pub slots_allows : ℕ → ℕ → List ℕ → ℕ → List ℕ → Bool
@@ -31,6 +31,10 @@ flat_allows n T cs ds P x = on_time ds x && slots_allows n T cs P x
 abbrev pub flat_within : ℕ → ℕ → List ℕ → List ℕ → ℕ → ℕ → List ℕ → Bool
 flat_within n T cs ds P limit x = flat_allows n T cs ds P x && nat_le (waited ds x) limit
 
+-- The least charge of an allowed schedule in the windows.
+abbrev pub least_waited : ℕ → ℕ → List ℕ → List ℕ → WindowSet → Option ℕ
+least_waited n T cs ds w = least (map (waited ds) (kept (flat_allows n T cs ds w.periods) (schedules w.each)))
+
 -- It charges the periods waited, its floor is the least charge of an allowed schedule in the windows, and it cuts to the hull
 -- of the allowed schedules up to the cap.
 abbrev pub flat : ℕ → ℕ → List ℕ → List ℕ → Meaning
@@ -38,6 +42,6 @@ flat n T cs ds = record {
   fits = same_size n T;
   allows = flat_allows n T cs ds;
   charge = λ P x. waited ds x;
-  floor = λ w. or_max (least (map (waited ds) (kept (flat_allows n T cs ds w.periods) (schedules w.each))));
+  floor = λ w. or_max (least_waited n T cs ds w);
   cut = λ w limit. hull w.periods (kept (flat_within n T cs ds w.periods limit) (schedules w.each));
 }

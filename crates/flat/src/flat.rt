@@ -9,6 +9,7 @@ mod calls;
 #[derive(Clone, Copy)]
 pub struct Flat {
     pub(crate) slots: Slots,
+    // no heap: an array, of which the batches that there are count
     pub(crate) dues: [u8; 32],
     ghost dated: { length dues ≡ 32 },
     ghost soon: { (k : ℕ) → slice_index dues k ≤ 64 },

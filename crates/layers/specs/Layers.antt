@@ -1,5 +1,7 @@
 -- What a pair of rules and a weighted rule mean.
-use Rattle.std.specs.Prelude.{ℕ, zero, suc, ◌+◌, ◌-◌, ◌*◌, ◌/◌, min, Bool, true, false, cond, ◌&&◌, List, [], ◌∷◌, Some, None, sum_by, Option, ◌==◌, nat_le}
+use Rattle.std.specs.Prelude.{ℕ, zero, suc, ◌+◌, ◌-◌, ◌*◌, ◌/◌, min, Bool, cond, ◌&&◌, List, Some, None, sum_by, Option, ◌==◌, nat_le}
+use Rattle.std.specs.Option.{option_and_then}
+use Rattle.std.specs.Cmp.Lexicographic.{pointwise}
 use Rattle.windows.specs.declared.window.Window.{Window}
 use Rattle.windows.specs.WindowSets.{WindowSet}
 use Rattle.rule.specs.Meaning.{Meaning, max_charge}
@@ -12,26 +14,18 @@ less m limit floor w = cond (nat_le floor limit) (m.cut w (limit - floor)) None
 abbrev pub beside : Meaning → Meaning → ℕ → WindowSet → Option WindowSet
 beside m other limit w = less m limit (other.floor w) w
 
--- Going on with some windows; with none it stays none.
-abbrev pub and_then : Option WindowSet → (WindowSet → Option WindowSet) → Option WindowSet
-and_then None go = None
-and_then (Some v) go = go v
-
 -- A round of a pair: the left side first, then the right side on the windows that are left. Neither has the whole cap.
 abbrev pub round : Meaning → Meaning → ℕ → WindowSet → Option WindowSet
-round a b limit w = and_then (beside a b limit w) (beside b a limit)
+round a b limit w = option_and_then (beside b a limit) (beside a b limit w)
 
 -- Whether two lists of windows are the same.
 abbrev pub same : List Window → List Window → Bool
-same [] [] = true
-same [] (w ∷ ws) = false
-same (v ∷ vs) [] = false
-same (v ∷ vs) (w ∷ ws) = (v.earliest == w.earliest && v.latest == w.latest) && same vs ws
+same vs ws = pointwise (λ v w. v.earliest == w.earliest && v.latest == w.latest) vs ws
 
 -- At most k rounds, up to the first that changes nothing.
 abbrev pub rounds : (WindowSet → Option WindowSet) → ℕ → WindowSet → Option WindowSet
 rounds one zero w = Some w
-rounds one (suc k) w = and_then (one w) (λ v. cond (same v.each w.each) (Some v) (rounds one k v))
+rounds one (suc k) w = option_and_then (λ v. cond (same v.each w.each) (Some v) (rounds one k v)) (one w)
 
 -- By how many periods the windows are longer than one each. A round that changes something makes it less, so one round more
 -- than the slack is enough for the last to change nothing.

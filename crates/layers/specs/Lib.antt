@@ -1,6 +1,5 @@
 pub mod Layers
 pub mod Laws
-pub mod Held
 pub mod Weights
 pub mod Pairing
 pub mod Rounding

@@ -62,8 +62,9 @@ module _ (a b : Meaning) (la : Lawful a) (lb : Lawful b) (limit : ℕ) (capped :
       let r = la.cut_inside w v (limit - b.floor w) p (omega arith) (less_some a limit (b.floor w) w v e).1 in
       record { same_periods = r.0; inside = r.1; proper = r.2 }
 
-  pub fit_beside : (floor : ℕ) (w v : WindowSet) → Proper w → floor ≡ b.floor w → Some v ≡ less a limit floor w → fitting (pair a b) w ≡ true → fitting b v ≡ true
-  fit_beside floor w v p f e t = fit_within b w v (beside_within w v p (ap (λ (n : ℕ). less a limit n w) (sym f) ∙ sym e)) (and_parts (fitting a w) (fitting b w) t).1
+  -- What fits the windows before fits those after.
+  pub fit_beside : (m : Meaning) (w v : WindowSet) → Proper w → Some v ≡ beside a b limit w → fitting m w ≡ true → fitting m v ≡ true
+  fit_beside m w v p e t = fit_within m w v (beside_within w v p (sym e)) t
 
   beside_still : (x : List ℕ) → Keeps (Still a b limit x) (beside a b limit)
   beside_still x w v s e =

@@ -2,9 +2,10 @@
 use Rattle.std.specs.Prelude.{◌≡◌, ℕ, zero, suc, ◌<◌, true, false, cond, ◌⊎◌, Some, None, Option, ◌≢◌, refl}
 use Rattle.std.proofs.Common.{sym, ap, subst, ◌∙◌, inl, inr, ⊎_elim, arith}
 use Rattle.std.proofs.lemmas.Bool.{cond-true, cond-false, cases_Bool}
+use Rattle.std.specs.Option.{option_and_then}
 use Rattle.windows.specs.WindowSets.{WindowSet, Inside, Proper}
 use Rattle.windows.proofs.Hulls.{some_inj, not_some}
-use Rattle.layers.specs.Layers.{and_then, same, slack, rounds}
+use Rattle.layers.specs.Layers.{same, slack, rounds}
 use Rattle.layers.specs.Slacks.{narrower}
 
 abbrev pub Step : Type 0
@@ -18,11 +19,11 @@ Keeps Q one = (w v : WindowSet) → Q w → one w ≡ Some v → Q v
 abbrev pub Answers : (WindowSet → Type 0) → Step → Type 0
 Answers Q one = (w : WindowSet) → Q w → one w ≢ None
 
-pub then_some : (o : Option WindowSet) (go : Step) (v : WindowSet) → and_then o go ≡ Some v → (u : WindowSet) × (o ≡ Some u) × (go u ≡ Some v)
+pub then_some : (o : Option WindowSet) (go : Step) (v : WindowSet) → option_and_then go o ≡ Some v → (u : WindowSet) × (o ≡ Some u) × (go u ≡ Some v)
 then_some None go v e = absurd (not_some v e)
 then_some (Some u) go v e = (u, refl, e)
 
-then_none : (o : Option WindowSet) (go : Step) → and_then o go ≡ None → (o ≡ None) ⊎ ((u : WindowSet) × (o ≡ Some u) × (go u ≡ None))
+then_none : (o : Option WindowSet) (go : Step) → option_and_then go o ≡ None → (o ≡ None) ⊎ ((u : WindowSet) × (o ≡ Some u) × (go u ≡ None))
 then_none None go e = inl refl
 then_none (Some u) go e = inr (u, refl, e)
 
@@ -38,10 +39,10 @@ rest_goes_on one k w v e = cond-false _ (Some v) (rounds one k v) e
 
 module _ (Q : WindowSet → Type 0) where
   -- One step after the other.
-  pub then_keeps : (f g : Step) → Keeps Q f → Keeps Q g → Keeps Q (λ w. and_then (f w) g)
+  pub then_keeps : (f g : Step) → Keeps Q f → Keeps Q g → Keeps Q (λ w. option_and_then g (f w))
   then_keeps f g kf kg w v q e = let t = then_some (f w) g v e in kg t.0 v (kf w t.0 q t.1) t.2
 
-  pub then_answers : (f g : Step) → Keeps Q f → Answers Q f → Answers Q g → Answers Q (λ w. and_then (f w) g)
+  pub then_answers : (f g : Step) → Keeps Q f → Answers Q f → Answers Q g → Answers Q (λ w. option_and_then g (f w))
   then_answers f g kf af ag w q e = ⊎_elim (λ n. af w q n) (λ t. ag t.0 (kf w t.0 q t.1) t.2) (then_none (f w) g e)
 
   -- What each round keeps, the rounds keep.
@@ -75,7 +76,7 @@ module _ (one : Step) (narrows : (w v : WindowSet) → Proper w → one w ≡ So
   rounds_same (suc j) zero w p h i = absurd (omega arith)
   rounds_same (suc j) (suc k) w p h i = go (one w) refl (λ v q l. rounds_same j k v q (omega arith) (omega arith))
     where
-      go : (o : Option WindowSet) → one w ≡ o → ((v : WindowSet) → Proper v → slack v.each < slack w.each → rounds one j v ≡ rounds one k v) → and_then o (rest one j w) ≡ and_then o (rest one k w)
+      go : (o : Option WindowSet) → one w ≡ o → ((v : WindowSet) → Proper v → slack v.each < slack w.each → rounds one j v ≡ rounds one k v) → option_and_then (rest one j w) o ≡ option_and_then (rest one k w) o
       go None f r = refl
       go (Some v) f r =
           let q = narrows w v p f in
@@ -89,7 +90,7 @@ module _ (one : Step) (narrows : (w v : WindowSet) → Proper w → one w ≡ So
   settles k w v p e s =
       let q = narrows w v p e in
       ⊎_elim
-      (λ y. ap (λ (o : Option WindowSet). and_then o (rest one k w)) e ∙ rest_ends one k w v y.0)
+      (λ y. ap (λ (o : Option WindowSet). option_and_then (rest one k w) o) e ∙ rest_ends one k w v y.0)
       (λ n. absurd (omega (arith, n.1)))
       (narrower v.each w.each q.proper.holds q.inside)
 
@@ -100,5 +101,5 @@ module _ (one : Step) (narrows : (w v : WindowSet) → Proper w → one w ≡ So
       let k = slack w.each in
       ⊎_elim
       (λ y. absurd (s y.1))
-      (λ n. (n.1, ap (λ (o : Option WindowSet). and_then o (rest one k w)) e ∙ rest_goes_on one k w v n.0 ∙ rounds_same k (suc (slack v.each)) v q.proper n.1 (omega arith)))
+      (λ n. (n.1, ap (λ (o : Option WindowSet). option_and_then (rest one k w) o) e ∙ rest_goes_on one k w v n.0 ∙ rounds_same k (suc (slack v.each)) v q.proper n.1 (omega arith)))
       (narrower v.each w.each q.proper.holds q.inside)

@@ -4,6 +4,7 @@
 ghost use Rattle.layers.specs.Laws.{RoundsSettle};
 
 mod pair;
+mod rounds;
 mod weight;
 mod weighted;
 
@@ -12,8 +13,6 @@ pub use weight::Weight;
 pub use weighted::Weighted;
 
 // That the rounds of a pair end by themselves, before any count of them could end them.
-pub fn rounds_settle() -> u8
+pub fn rounds_settle()
     ensures { RoundsSettle }
-{
-    0
-}
+{}

@@ -4,7 +4,7 @@ ghost use Rattle.layers.specs.Layers.{weighted as weighted_of};
 ghost use Rattle.layers.specs.Weighing.{weighted_lawful};
 
 use crate::weight::Weight;
-use rule::{MAX_CHARGE, Rule};
+use rule::{MAX_CHARGE, Rule, admit};
 use windows::{Refusal, Size, Windows};
 
 // What the rule below allows, at its charge times the weight.
@@ -37,12 +37,7 @@ impl<R: Rule> Rule for Weighted<R> {
     }
 
     fn narrow(&self, windows: &mut Windows, limit: u64) -> Result<(), Refusal> {
-        if !self.fits(windows.size()) {
-            return Err(Refusal::Unfit);
-        }
-        if limit > MAX_CHARGE {
-            return Err(Refusal::CapTooHigh);
-        }
+        admit(self.fits(windows.size()), limit)?;
         self.rule.narrow(windows, limit / self.weight.get() as u64)
     }
 }

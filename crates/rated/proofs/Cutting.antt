@@ -1,5 +1,6 @@
 -- The cut: the hull by Flat, and then the ends that are found.
 use Rattle.std.proofs.Common.{◌≡◌, ℕ, ◌<◌, ◌≤◌, Bool, true, false, cond, ◌&&◌, leb, List, length, get_or, take, Some, None, Ok, Err, Option, Result, sym, refl, ap, ◌∙◌, subst, ⊎_elim, arith}
+use Rattle.std.specs.Result.{result_ok}
 use Rattle.std.proofs.lemmas.List.{get_or-take, length-take-le}
 use Rattle.std.proofs.lemmas.Bool.{cond-false, cases_lt, le-leb, not_from_true}
 use Rattle.windows.specs.declared.refusal.Refusal.{Refusal}
@@ -7,7 +8,7 @@ use Rattle.windows.specs.declared.window.Window.{Window}
 use Rattle.windows.specs.declared.windows.Windows.{Windows}
 use Rattle.windows.specs.Refusals.{struck}
 use Rattle.windows.specs.WindowSets.{WindowSet, nowhere, window, earliest_of, latest_of}
-use Rattle.windows.specs.Schedules.{kept, schedules, hull}
+use Rattle.windows.specs.Schedules.{schedules, hull}
 use Rattle.windows.specs.Hulls.{Among, Hull, Passes}
 use Rattle.windows.specs.Filling.{set_of, paired, Filled}
 use Rattle.windows.proofs.Lying.{proper_inside}
@@ -16,7 +17,7 @@ use Rattle.windows.proofs.Enumerated.{enumerated_some}
 use Rattle.windows.proofs.Fills.{paired_at, length_paired}
 use Rattle.windows.proofs.Held.{held_proper, fills, numbered}
 use Rattle.rule.specs.Meaning.{Meaning, max_charge}
-use Rattle.rule.specs.Narrowing.{none, fitting, narrow_checks, Narrowed, CutTo}
+use Rattle.rule.specs.Narrowing.{none, fitting, narrow_checks, Narrowed}
 use Rattle.rule.proofs.Entries.{each_inside}
 use Rattle.sweep.specs.declared.batches.Batches.{Batches}
 use Rattle.flat.specs.Tests.{same_size, waited}
@@ -24,9 +25,10 @@ use Rattle.flat.specs.Rules.{flat_allows, flat_within, flat}
 use Rattle.flat.specs.Tested.{allowed, on_time_at}
 use Rattle.flat.specs.Laws.{flat_lawful, flat_unfit}
 use Rattle.rated.specs.declared.rated.Rated.{Rated}
-use Rattle.rated.specs.Rates.{forced, at_most, affordable, ends_of, measured, over, after_hull}
+use Rattle.rated.specs.declared.measure.Forcing.{Forcing}
+use Rattle.rated.specs.Rates.{forced, at_most, affordable, ends_of, measured, over, after_hull, allowed_hull}
 use Rattle.rated.specs.Loading.{rated_of}
-use Rattle.rated.specs.Measures.{Prices, NothingFits, Affords, SomeUnaffordable, First, Final}
+use Rattle.rated.specs.Measures.{Prices, NothingFits, Forces, Affords, SomeUnaffordable, First, Final}
 use Rattle.rated.specs.Replaced.{Ends, replaced_is, replaced_empty, ends_is, ends_empty}
 use Rattle.rated.specs.Relaxed.{on_time_long, relaxed_lies}
 use Rattle.rated.specs.Laws.{affordable_in, affordable_out, measured_inside}
@@ -34,41 +36,34 @@ use Rattle.rated.proofs.Pricing.{affords_in, affords_out}
 
 -- Without a cap to speak of, Flat cuts to the hull of all that it allows.
 module _ (n T : ℕ) (cs ds : List ℕ) (few : n ≤ 32) (soon : (k : ℕ) → k < length ds → get_or ds k 0 ≤ 64) where
-  abbrev whole : WindowSet → Option WindowSet
-  whole w = hull w.periods (kept (flat_allows n T cs ds w.periods) (schedules w.each))
-
-  uncapped : (w : WindowSet) → (flat n T cs ds).cut w max_charge ≡ whole w
+  uncapped : (w : WindowSet) → (flat n T cs ds).cut w max_charge ≡ allowed_hull n T cs ds w
   uncapped w = ap (hull w.periods) (kept_same (flat_within n T cs ds w.periods max_charge) (flat_allows n T cs ds w.periods) (schedules w.each) (λ x m. go x (flat_allows n T cs ds w.periods x) refl))
     where
       go : (x : List ℕ) (b : Bool) → flat_allows n T cs ds w.periods x ≡ b → (b && leb (waited ds x) max_charge) ≡ b
       go x true e = le-leb (waited ds x) max_charge ((flat_lawful n T cs ds few soon).sized w.periods x e).1
       go x false e = refl
 
-  whole_some : (m : Meaning) (w h : Windows) → m ≡ flat n T cs ds → Narrowed m max_charge w h (Ok tt) → whole (set_of w) ≡ Some (set_of h)
-  whole_some m w h e d = sym (uncapped (set_of w)) ∙ ap (λ (a : Meaning). a.cut (set_of w) max_charge) (sym e) ∙ d.1
-
   -- A refusal says that there is no schedule at all, since the cap is not too high.
-  whole_none : (m : Meaning) (w h : Windows) (f : Refusal) → m ≡ flat n T cs ds → Narrowed m max_charge w h (Err f) → whole (set_of w) ≡ None
-  whole_none m w h f e d = go (whole (set_of w)) refl
+  none_allowed : (w h : Windows) (f : Refusal) → Narrowed (flat n T cs ds) max_charge w h (Err f) → allowed_hull n T cs ds (set_of w) ≡ None
+  none_allowed w h f d = go (allowed_hull n T cs ds (set_of w)) refl
     where
-      fits : (v : WindowSet) → whole (set_of w) ≡ Some v → (b : Bool) → same_size n T (length (set_of w).each) (set_of w).periods ≡ b → b ≡ true
+      fits : (v : WindowSet) → allowed_hull n T cs ds (set_of w) ≡ Some v → (b : Bool) → same_size n T (length (set_of w).each) (set_of w).periods ≡ b → b ≡ true
       fits v s true g = refl
       fits v s false g = let x = (enumerated_some (flat_allows n T cs ds (set_of w).periods) (set_of w).periods (set_of w).each v s).1.some in absurd (flat_unfit n T cs ds (set_of w) x.0 g x.1)
 
-      go : (o : Option WindowSet) → whole (set_of w) ≡ o → whole (set_of w) ≡ None
+      go : (o : Option WindowSet) → allowed_hull n T cs ds (set_of w) ≡ o → allowed_hull n T cs ds (set_of w) ≡ None
       go None s = s
       go (Some v) s =
           let fit = fits v s (same_size n T (length (set_of w).each) (set_of w).periods) refl in
           let past : struck (narrow_checks (flat n T cs ds) max_charge (set_of w)) ≡ 0 = cond-false _ 7 _ (not_from_true (fitting (flat n T cs ds) (set_of w)) fit) ∙ ap (λ (o : Option WindowSet). cond (none o) 9 0) (uncapped (set_of w) ∙ s) in
-          let was = (ap (λ (a : Meaning). struck (narrow_checks a max_charge (set_of w))) (sym e) ∙ d.0) in
-          absurd (omega (arith, past, was, numbered f))
+          absurd (omega (arith, past, d.0, numbered f))
 
 module _ (r : Rated) where
   abbrev n : ℕ
-  n = r.count
+  n = r.extent.batches
 
   abbrev T : ℕ
-  T = r.last
+  T = r.extent.periods
 
   abbrev cs : List ℕ
   cs = take T r.capacities
@@ -80,20 +75,23 @@ module _ (r : Rated) where
   rs = take n r.rates
 
   soon : (k : ℕ) → k < length ds → get_or ds k 0 ≤ 64
-  soon k h = omega (arith, r.most, each_inside 1 T ds r.timely k h)
+  soon k h = omega (arith, r.extent.most, each_inside 1 T ds r.timely k h)
 
-  -- The hull of w.
-  abbrev pub hulled : Windows → Option WindowSet
-  hulled w = hull (set_of w).periods (kept (flat_allows r.count r.last (take r.last r.capacities) (take r.count r.dues) (set_of w).periods) (schedules (set_of w).each))
+  abbrev hull_of : Windows → Option WindowSet
+  hull_of w = allowed_hull r.extent.batches r.extent.periods (take r.extent.periods r.capacities) (take r.extent.batches r.dues) (set_of w)
 
-  pub hull_some : (m : Meaning) (w h : Windows) → m ≡ flat r.count r.last (take r.last r.capacities) (take r.count r.dues) → Narrowed m max_charge w h (Ok tt) → hulled w ≡ Some (set_of h)
-  hull_some m w h e d = whole_some n T cs ds r.few soon m w h e d
+  -- What Flat's narrowing leaves is the hull.
+  module _ (m : Meaning) (w h : Windows) (e : m ≡ flat r.extent.batches r.extent.periods (take r.extent.periods r.capacities) (take r.extent.batches r.dues)) where
+    pub hull_some : (o : Result (Unit {0}) Refusal) (u : Unit {0}) → result_ok o ≡ Some u → Narrowed m max_charge w h o → Some (set_of h) ≡ hull_of w
+    hull_some (Ok u) v k d = sym d.1 ∙ ap (λ (a : Meaning). a.cut (set_of w) max_charge) e ∙ uncapped n T cs ds r.extent.few soon (set_of w)
+    hull_some (Err f) v k d = cc
 
-  pub no_hull : (m : Meaning) (w h : Windows) (f : Refusal) (limit : ℕ) → m ≡ flat r.count r.last (take r.last r.capacities) (take r.count r.dues) → Narrowed m max_charge w h (Err f) → (rated_of r).cut (set_of w) limit ≡ None
-  no_hull m w h f limit e d = ap (after_hull cs ds rs limit) (whole_none n T cs ds r.few soon m w h f e d)
+    pub hull_none : (o : Result (Unit {0}) Refusal) → result_ok o ≡ None → Narrowed m max_charge w h o → None ≡ hull_of w
+    hull_none (Ok u) k d = cc
+    hull_none (Err f) k d = sym (none_allowed n T cs ds r.extent.few soon w h f (subst (λ (a : Meaning). Narrowed a max_charge w h (Err f)) e d))
 
   -- It is h.
-  module _ (w h : Windows) (limit : ℕ) (e : hulled w ≡ Some (set_of h)) where
+  module _ (w h : Windows) (e : Some (set_of h) ≡ hull_of w) where
     abbrev P : ℕ
     P = (set_of w).periods
 
@@ -101,10 +99,7 @@ module _ (r : Rated) where
     hs = (set_of h).each
 
     spans : ((set_of h).periods ≡ P) × Hull (Passes (flat_allows n T cs ds P) (set_of w).each) hs
-    spans = enumerated_some (flat_allows n T cs ds P) P (set_of w).each (set_of h) e
-
-    cut_is : (rated_of r).cut (set_of w) limit ≡ over (set_of h).periods (measured cs ds rs limit hs)
-    cut_is = ap (after_hull cs ds rs limit) e
+    spans = enumerated_some (flat_allows n T cs ds P) P (set_of w).each (set_of h) (sym e)
 
     -- So some schedule lies in the relaxed windows of the hull.
     pub never_nothing : NothingFits r h → ⊥
@@ -115,50 +110,55 @@ module _ (r : Rated) where
         let fit = subst (λ (q : ℕ). same_size n T (length hs) q ≡ true) (sym spans.0) (subst (λ (k : ℕ). same_size n T k P ≡ true) l.same_size a.fits) in
         nil fit x.0 (relaxed_lies ds x.0 hs a.prompt l (held_proper h).starts, a.held)
 
-    module _ (b : Batches) (c : Prices r h b) where
-      test : (k v : ℕ) → k < length hs → earliest_of hs k ≤ v → v ≤ latest_of hs k → at_most (forced cs ds rs hs k v) limit ≡ true → Affords b r.capacities limit k v
-      test k v i lo hi t =
-          let f = spans.1.final k i in
-          let l = spans.1.lies f.0 f.1 in
-          let o = (allowed n T cs ds P f.0 f.1.1).prompt in
-          let due = on_time_at ds f.0 o k (omega (arith, on_time_long ds f.0 o, l.same_size)) in
-          affords_out r h b c limit k v i (omega (arith, (held_proper h).starts k i)) hi (omega (arith, f.2, due)) t
+    -- A forcing of its batches.
+    module _ (b : Batches) (c : Prices r h b) (f : Forcing) (limit : ℕ) (g : Forces f b r.capacities limit) where
+      cut_is : over (set_of h).periods (measured cs ds rs limit hs) ≡ (rated_of r).cut (set_of w) limit
+      cut_is = ap (after_hull cs ds rs limit) e
 
-      pub unaffordable : SomeUnaffordable b r.capacities limit (set_of h).each → (rated_of r).cut (set_of w) limit ≡ None
-      unaffordable nil = cut_is ∙ ap (over (set_of h).periods) (replaced_empty (λ i u. ends_of (affordable cs ds rs hs limit i u)) hs nil.0 nil.1 (ends_empty _ (λ t m.
+      test : (k v : ℕ) → k < length hs → earliest_of hs k ≤ v → v ≤ latest_of hs k → at_most (forced cs ds rs hs k v) limit ≡ true → Affords f k v
+      test k v i lo hi t =
+          let x = spans.1.final k i in
+          let l = spans.1.lies x.0 x.1 in
+          let o = (allowed n T cs ds P x.0 x.1.1).prompt in
+          let due = on_time_at ds x.0 o k (omega (arith, on_time_long ds x.0 o, l.same_size)) in
+          affords_out r h b c f limit g k v i (omega (arith, (held_proper h).starts k i)) hi (omega (arith, x.2, due)) t
+
+      pub unaffordable : SomeUnaffordable f (set_of h).each → None ≡ (rated_of r).cut (set_of w) limit
+      unaffordable nil =
+          let empty = replaced_empty (λ i u. ends_of (affordable cs ds rs hs limit i u)) hs nil.0 nil.1 (ends_empty _ (λ t m.
           (let a = affordable_out cs ds rs hs limit nil.0 (get_or hs nil.0 nowhere) t m in
-          nil.2 t a.0 a.1 (test nil.0 t nil.1 a.0 a.1 a.2)))))
+          nil.2 t a.0 a.1 (test nil.0 t nil.1 a.0 a.1 a.2)))) in
+          sym (ap (over (set_of h).periods) empty) ∙ cut_is
 
       -- The ends found, as windows.
-      module _ (m Q : ℕ) (es ls p q : List ℕ) (mn : m ≡ length hs) (qp : Q ≡ (set_of h).periods) (low : es ≡ take m p) (high : ls ≡ take m q) (long : (length p ≡ 32) × (length q ≡ 32))
-          (first : (k : ℕ) → k < length hs → First b r.capacities limit hs k (get_or p k 0)) (final : (k : ℕ) → k < length hs → Final b r.capacities limit hs k (get_or q k 0)) where
+      module _ (m Q : ℕ) (p q : List ℕ) (mn : m ≡ length hs) (qp : Q ≡ (set_of h).periods)
+          (early : (length p ≡ 32) × ((k : ℕ) → k < length hs → First f hs k (get_or p k 0))) (late : (length q ≡ 32) × ((k : ℕ) → k < length hs → Final f hs k (get_or q k 0))) where
+        abbrev es : List ℕ
+        es = take m p
+
+        abbrev ls : List ℕ
+        ls = take m q
+
         size : (length es ≡ m) × (length ls ≡ m)
-        size =
-            let few = (held_proper h).few in
-            let a = length-take-le m p (omega (arith, long.0)) in
-            let z = length-take-le m q (omega (arith, long.1)) in
-            (ap length low ∙ a, ap length high ∙ z)
+        size = let few = (held_proper h).few in (length-take-le m p (omega (arith, early.0)), length-take-le m q (omega (arith, late.0)))
 
         level : length es ≡ length ls
         level = size.0 ∙ sym size.1
 
         at : (k : ℕ) → k < length hs → get_or (paired es ls) k nowhere ≡ window (get_or p k 0) (get_or q k 0)
-        at k i =
-            paired_at es ls k level (omega (arith, size)) ∙
-            ap (λ (a : ℕ). window a (get_or ls k 0)) (ap (λ (l : List ℕ). get_or l k 0) low ∙ get_or-take m p k 0 (omega arith)) ∙
-            ap (window (get_or p k 0)) (ap (λ (l : List ℕ). get_or l k 0) high ∙ get_or-take m q k 0 (omega arith))
+        at k i = paired_at es ls k level (omega (arith, size)) ∙ ap (λ (a : ℕ). window a (get_or ls k 0)) (get_or-take m p k 0 (omega arith)) ∙ ap (window (get_or p k 0)) (get_or-take m q k 0 (omega arith))
 
         ends : (k : ℕ) → k < length hs → Ends (affordable cs ds rs hs limit k (get_or hs k nowhere)) (window (get_or p k 0) (get_or q k 0))
         ends k i =
-            let f = first k i in
-            let z = final k i in
-            let out : (t : ℕ) → Among t (affordable cs ds rs hs limit k (get_or hs k nowhere)) → (earliest_of hs k ≤ t) × (t ≤ latest_of hs k) × Affords b r.capacities limit k t = λ t m.
-            (let a = affordable_out cs ds rs hs limit k (get_or hs k nowhere) t m in (a.0, a.1, test k t i a.0 a.1 a.2)) in
+            let a = early.1 k i in
+            let z = late.1 k i in
+            let out : (t : ℕ) → Among t (affordable cs ds rs hs limit k (get_or hs k nowhere)) → (earliest_of hs k ≤ t) × (t ≤ latest_of hs k) × Affords f k t = λ t m.
+            (let o = affordable_out cs ds rs hs limit k (get_or hs k nowhere) t m in (o.0, o.1, test k t i o.0 o.1 o.2)) in
             record {
-              first = affordable_in cs ds rs hs limit k (get_or hs k nowhere) (get_or p k 0) f.starts f.ends (affords_in r h b c limit k (get_or p k 0) i f.affords);
-              final = affordable_in cs ds rs hs limit k (get_or hs k nowhere) (get_or q k 0) z.starts z.ends (affords_in r h b c limit k (get_or q k 0) i z.affords);
-              low = λ t m. (let a = out t m in ⊎_elim (λ less. absurd (f.before t a.0 less a.2)) (λ more. more) (cases_lt t (get_or p k 0)));
-              high = λ t m. (let a = out t m in ⊎_elim (λ less. absurd (z.after t less a.1 a.2)) (λ more. more) (cases_lt (get_or q k 0) t));
+              first = affordable_in cs ds rs hs limit k (get_or hs k nowhere) (get_or p k 0) a.starts a.ends (affords_in r h b c f limit g k (get_or p k 0) i a.affords);
+              final = affordable_in cs ds rs hs limit k (get_or hs k nowhere) (get_or q k 0) z.starts z.ends (affords_in r h b c f limit g k (get_or q k 0) i z.affords);
+              low = λ t m. (let o = out t m in ⊎_elim (λ less. absurd (a.before t o.0 less o.2)) (λ more. more) (cases_lt t (get_or p k 0)));
+              high = λ t m. (let o = out t m in ⊎_elim (λ less. absurd (z.after t less o.1 o.2)) (λ more. more) (cases_lt (get_or q k 0) t));
             }
 
         is : measured cs ds rs limit hs ≡ Some (paired es ls)
@@ -167,10 +167,13 @@ module _ (r : Rated) where
           each = λ k i. ends_is (λ v. at_most (forced cs ds rs hs k v) limit) (get_or hs k nowhere) (get_or (paired es ls) k nowhere) (subst (λ (u : Window). Ends (affordable cs ds rs hs limit k (get_or hs k nowhere)) u) (sym (at k i)) (ends k i));
         })
 
-        pub filled_cut : (v : Windows) (o : Result (Unit {0}) Refusal) → Filled m Q es ls w v o → CutTo ((rated_of r).cut (set_of w) limit) w v o
-        filled_cut v (Ok u) g =
-            cut_is ∙ ap (over (set_of h).periods) is ∙ ap (λ (t : ℕ). Some (record { periods = t; each = paired es ls })) (sym qp) ∙ ap (λ (s : WindowSet). Some s) (sym g.1)
-        filled_cut v (Err x) g =
+        pub filled_cut : (v : Windows) (u : Unit {0}) (o : Result (Unit {0}) Refusal) → result_ok o ≡ Some u → Filled m Q es ls h v o → Some (set_of v) ≡ (rated_of r).cut (set_of w) limit
+        filled_cut v u (Ok t) k d = ap (λ (s : WindowSet). Some s) d.1 ∙ ap (λ (t : ℕ). Some (record { periods = t; each = paired es ls })) qp ∙ sym (ap (over (set_of h).periods) is) ∙ cut_is
+        filled_cut v u (Err x) k d = cc
+
+        pub never_refused : (v : Windows) (o : Result (Unit {0}) Refusal) → result_ok o ≡ None → Filled m Q es ls h v o → ⊥
+        never_refused v (Ok t) k d = cc
+        never_refused v (Err x) k d =
             let i = measured_inside cs ds rs hs (paired es ls) limit is in
             let ok = fills m Q es ls size.0 size.1 (proper_inside (record { periods = Q; each = paired es ls }) (set_of h) (held_proper h) qp i.0 i.1) in
-            absurd (omega (arith, g.0, ok, numbered x))
+            omega (arith, d.0, ok, numbered x)

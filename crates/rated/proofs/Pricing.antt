@@ -1,10 +1,13 @@
 -- The schedules that fit the batches of some windows are those that keep the capacities in the relaxed windows.
-use Rattle.std.proofs.Common.{◌≡◌, ℕ, zero, suc, ◌+◌, ◌-◌, ◌*◌, ◌<◌, ◌≤◌, min, Bool, true, false, List, [], ◌∷◌, length, get_or, take, Some, None, Option, sym, refl, ap, ◌∙◌, arith, MatchOption}
-use Rattle.std.proofs.lemmas.List.{ext_get_or, get_or-take, length-take-le}
+use Rattle.std.proofs.Common.{◌≡◌, ℕ, ◌+◌, ◌-◌, ◌*◌, ◌<◌, ◌≤◌, min, Bool, true, false, List, [], ◌∷◌, length, get_or, take, Some, None, Option, sym, refl, ap, ◌∙◌, arith, MatchOption}
+use Rattle.std.specs.List.{zip}
+use Rattle.std.proofs.lemmas.List.{ext_get_or, get_or-take, get_or-map, length-map, length-take-le}
+use Rattle.std.proofs.lemmas.Simd.{map-map}
+use Rattle.std.proofs.lemmas.Slice.Zip.{length-zip, get_or-zip}
 use Rattle.std.proofs.lemmas.Bool.{cond-true, cond-false}
 use Rattle.windows.specs.declared.window.Window.{Window}
 use Rattle.windows.specs.declared.windows.Windows.{Windows}
-use Rattle.windows.specs.WindowSets.{Lies, Proper, latest_of}
+use Rattle.windows.specs.WindowSets.{Lies, Proper, nowhere, latest_of}
 use Rattle.windows.specs.Schedules.{count}
 use Rattle.windows.specs.Hulls.{Passes}
 use Rattle.windows.specs.Filling.{set_of}
@@ -12,15 +15,16 @@ use Rattle.windows.proofs.Held.{held_proper}
 use Rattle.rule.specs.Meaning.{max_charge}
 use Rattle.line.specs.declared.batch.Batch.{Batch}
 use Rattle.sweep.specs.declared.batches.Batches.{Batches}
-use Rattle.sweep.specs.Charges.{at, no_batch, Fits, Impossible, charge, Cheapest, Sound, relaxed as opened_list}
+use Rattle.sweep.specs.Charges.{at, no_batch, Fits, Impossible, charge, Cheapest, Sound, opened, relaxed as opened_list}
 use Rattle.sweep.specs.Held.{listed, last_of, Holds}
 use Rattle.flat.specs.Tests.{same_size, within}
 use Rattle.flat.specs.Tested.{same_size_parts, within_at, within_from}
 use Rattle.flat.specs.Laws.{floor_is, floor_none}
 use Rattle.rated.specs.declared.rated.Rated.{Rated}
+use Rattle.rated.specs.declared.measure.Forcing.{Forcing}
 use Rattle.rated.specs.Rates.{spent, relaxed, forced, at_most}
 use Rattle.rated.specs.Loading.{rated_of}
-use Rattle.rated.specs.Measures.{priced, Prices, NothingFits, Affords}
+use Rattle.rated.specs.Measures.{priced, Prices, NothingFits, Forces, charged, Affords}
 use Rattle.rated.specs.Relaxed.{length_relaxed, relaxed_at, lies_forced, forced_at, forced_lies}
 use Rattle.rated.specs.Laws.{at_most_in, at_most_out}
 
@@ -29,25 +33,24 @@ pub record Level (rs ds : List ℕ) (ws : List Window) : Type 0 where
   pub rates : length rs ≡ length ws
   pub dues : length ds ≡ length ws
 
+-- The batch of a window, with the due period and the rate that go with it.
+abbrev priced_one : ℕ × (ℕ × Window) → Batch
+priced_one p = record { earliest = 1; latest = min p.1.1.latest p.1.0; due = p.1.0; rate = p.0 }
+
 length_priced : (rs ds : List ℕ) (ws : List Window) → Level rs ds ws → length (priced rs ds ws) ≡ length ws
-length_priced [] ds ws e = e.rates
-length_priced (r ∷ rs) [] ws e = e.dues
-length_priced (r ∷ rs) (d ∷ ds) [] e = refl
-length_priced (r ∷ rs) (d ∷ ds) (w ∷ ws) e = let a = e.rates in let b = e.dues in ap suc (length_priced rs ds ws (record { rates = omega arith; dues = omega arith }))
+length_priced rs ds ws e = omega (arith, e.rates, e.dues, length-map (zip rs (zip ds ws)) priced_one, length-zip rs (zip ds ws), length-zip ds ws)
 
 priced_at : (rs ds : List ℕ) (ws : List Window) (k : ℕ) → Level rs ds ws → k < length ws → at (priced rs ds ws) k ≡ record { earliest = 1; latest = min (latest_of ws k) (get_or ds k 0); due = get_or ds k 0; rate = get_or rs k 0 }
-priced_at [] ds ws k e h = absurd (let a = e.rates in omega arith)
-priced_at (r ∷ rs) [] ws k e h = absurd (let a = e.dues in omega arith)
-priced_at (r ∷ rs) (d ∷ ds) [] k e h = absurd (omega arith)
-priced_at (r ∷ rs) (d ∷ ds) (w ∷ ws) zero e h = refl
-priced_at (r ∷ rs) (d ∷ ds) (w ∷ ws) (suc k) e h = let a = e.rates in let b = e.dues in priced_at rs ds ws k (record { rates = omega arith; dues = omega arith }) (omega arith)
+priced_at rs ds ws k e h =
+    let a = e.rates in
+    let b = e.dues in
+    let inner = get_or-zip ds ws k (0, nowhere) (omega arith) h in
+    get_or-map priced_one (zip rs (zip ds ws)) k (0, (0, nowhere)) no_batch (omega (arith, length-zip rs (zip ds ws), length-zip ds ws)) ∙
+    ap priced_one (get_or-zip rs (zip ds ws) k (0, (0, nowhere)) (omega arith) (omega (arith, length-zip ds ws)) ∙ ap (λ (q : ℕ × Window). (get_or rs k 0, q)) inner)
 
 -- Their windows are open already.
 opened_priced : (rs ds : List ℕ) (ws : List Window) → opened_list (priced rs ds ws) ≡ priced rs ds ws
-opened_priced [] ds ws = refl
-opened_priced (r ∷ rs) [] ws = refl
-opened_priced (r ∷ rs) (d ∷ ds) [] = refl
-opened_priced (r ∷ rs) (d ∷ ds) (w ∷ ws) = ap (λ (l : List Batch). record { earliest = 1; latest = min w.latest d; due = d; rate = r } ∷ l) (opened_priced rs ds ws)
+opened_priced rs ds ws = map-map opened priced_one (zip rs (zip ds ws))
 
 charge_priced : (rs ds : List ℕ) (ws : List Window) (x : List ℕ) → Level rs ds ws → charge (λ b. b.rate) (priced rs ds ws) x ≡ spent rs ds x
 charge_priced [] ds ws x e = refl
@@ -58,10 +61,10 @@ charge_priced (r ∷ rs) (d ∷ ds) (w ∷ ws) (v ∷ x) e = let a = e.rates in 
 
 module _ (r : Rated) (w : Windows) where
   abbrev pub n : ℕ
-  n = r.count
+  n = r.extent.batches
 
   abbrev pub T : ℕ
-  T = r.last
+  T = r.extent.periods
 
   abbrev pub cs : List ℕ
   cs = take T r.capacities
@@ -80,7 +83,7 @@ module _ (r : Rated) (w : Windows) where
 
   level : same_size n T (length ws) P ≡ true → Level rs ds ws
   level fits =
-      let few = r.few in
+      let few = r.extent.few in
       let wide = (same_size_parts n T (length ws) P fits).0 in
       record { rates = length-take-le n r.rates (omega (arith, r.priced)) ∙ sym wide; dues = length-take-le n r.dues (omega (arith, r.dated)) ∙ sym wide }
 
@@ -153,7 +156,7 @@ module _ (r : Rated) (w : Windows) where
     cost x = ap (λ (l : List Batch). charge (λ b. b.rate) l x) opened_is ∙ charge_priced rs ds ws x even
 
     room : length cs ≡ P
-    room = length-take-le T r.capacities (omega (arith, r.long, r.most)) ∙ sym (same_size_parts n T (length ws) P c.fits).1
+    room = length-take-le T r.capacities (omega (arith, r.long, r.extent.most)) ∙ sym (same_size_parts n T (length ws) P c.fits).1
 
     capacity : (k : ℕ) → k < P → get_or cs k 0 ≡ get_or r.capacities k 0
     capacity k h = get_or-take T r.capacities k 0 (omega (arith, (same_size_parts n T (length ws) P c.fits).1))
@@ -203,19 +206,27 @@ module _ (r : Rated) (w : Windows) where
         ap (λ (l : List Batch). charge (λ b. b.rate) l (take (length l) p)) (sym same) ∙ cost x ∙
         sym (cond-true (same_size n T (length ws) P) _ max_charge c.fits ∙ floor_is (spent rs ds) (within cs 1) (relaxed ds ws) x (fits_out x h.fits) (λ y ok. omega (arith, cost x, cost y, h.least y (fits_in y ok))))
 
-    -- A period is affordable to the code exactly where it is by the rule.
-    module _ (limit i v : ℕ) (inside : i < length ws) where
-      here : i < length (relaxed ds ws)
-      here = omega (arith, length_relaxed ds ws even.dues)
+  -- A period is affordable to a forcing of these batches exactly where it is by the rule.
+  module _ (b : Batches) (c : Prices r w b) (f : Forcing) (limit : ℕ) (g : Forces f b r.capacities limit) (i v : ℕ) (inside : i < length ws) where
+    dated : length ds ≡ length ws
+    dated = (level c.fits).dues
 
-      pub affords_in : Affords b r.capacities limit i v → at_most (forced cs ds rs ws i v) limit ≡ true
-      affords_in a =
-          let ok = fits_out a.0 a.1 in
-          at_most_in cs ds rs _ a.0 limit (lies_forced (relaxed ds ws) i v here a.0 ok.0 a.2.1, ok.1) (omega (arith, cost a.0, a.3))
+    here : i < length (relaxed ds ws)
+    here = omega (arith, length_relaxed ds ws dated)
 
-      pub affords_out : 1 ≤ v → v ≤ latest_of ws i → v ≤ get_or ds i 0 → at_most (forced cs ds rs ws i v) limit ≡ true → Affords b r.capacities limit i v
-      affords_out low high due t =
-          let y = at_most_out cs ds rs _ limit t in
-          let e = relaxed_at ds ws i even.dues inside in
-          let l = forced_lies (relaxed ds ws) i v here y.0 y.1.0 (omega (arith, ap (λ u. u.earliest) e)) (omega (arith, ap (λ u. u.latest) e)) in
-          (y.0, fits_in y.0 (l, y.1.1), (omega (arith, l.same_size, here), forced_at (relaxed ds ws) i v here y.0 y.1.0), omega (arith, cost y.0, y.2))
+    spends : (x : List ℕ) → charged f x ≡ spent rs ds x
+    spends x = ap (λ (a : Batches). charge (λ b. b.rate) (opened_list (listed a)) x) g.same_batches ∙ cost b c x
+
+    pub affords_in : Affords f i v → at_most (forced cs ds rs ws i v) limit ≡ true
+    affords_in a =
+        let cap = g.same_limit in
+        let ok = fits_out b c a.0 (rw (← g.same_batches, ← g.same_capacities) a.1) in
+        at_most_in cs ds rs _ a.0 limit (lies_forced (relaxed ds ws) i v here a.0 ok.0 a.2.1, ok.1) (omega (arith, spends a.0, a.3))
+
+    pub affords_out : 1 ≤ v → v ≤ latest_of ws i → v ≤ get_or ds i 0 → at_most (forced cs ds rs ws i v) limit ≡ true → Affords f i v
+    affords_out low high due t =
+        let cap = g.same_limit in
+        let y = at_most_out cs ds rs _ limit t in
+        let e = relaxed_at ds ws i dated inside in
+        let l = forced_lies (relaxed ds ws) i v here y.0 y.1.0 (omega (arith, ap (λ u. u.earliest) e)) (omega (arith, ap (λ u. u.latest) e)) in
+        (y.0, rw (g.same_batches, g.same_capacities) (fits_in b c y.0 (l, y.1.1)), (omega (arith, l.same_size, here), forced_at (relaxed ds ws) i v here y.0 y.1.0), omega (arith, spends y.0, y.2))

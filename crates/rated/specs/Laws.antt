@@ -4,7 +4,7 @@ use Rattle.std.proofs.Common.{sym, ap, subst, ◌∙◌, inl, inr, arith}
 use Rattle.std.proofs.lemmas.Bool.{leb-true, le-leb, cond-true, cond-false, cond_both, false≢true}
 use Rattle.windows.specs.declared.window.Window.{Window}
 use Rattle.windows.specs.WindowSets.{WindowSet, Lies, Inside, Single, Proper, window, nowhere, earliest_of, latest_of}
-use Rattle.windows.specs.Schedules.{kept, schedules, periods_in, hull}
+use Rattle.windows.specs.Schedules.{periods_in}
 use Rattle.windows.specs.Hulls.{Among, Passes}
 use Rattle.windows.proofs.Lying.{Nonempty, proper_inside}
 use Rattle.windows.proofs.Members.{kept_in, kept_out, periods_in_in, periods_in_out}
@@ -17,7 +17,7 @@ use Rattle.flat.specs.Tests.{same_size, within, on_time}
 use Rattle.flat.specs.Rules.{or_max, flat_allows}
 use Rattle.flat.specs.Tested.{allowed, same_size_parts, on_time_at}
 use Rattle.flat.specs.Laws.{floor_top, floor_below, floor_is}
-use Rattle.rated.specs.Rates.{spent, relaxed, cheapest, forced, at_most, affordable, ends_of, measured, after_hull, rated}
+use Rattle.rated.specs.Rates.{spent, relaxed, cheapest, forced, at_most, affordable, ends_of, measured, after_hull, allowed_hull, rated}
 use Rattle.rated.specs.Replaced.{Ends, replaced_some, replaced_none, over_some, over_none, ends_some, ends_none}
 use Rattle.rated.specs.Relaxed.{length_relaxed, relaxed_short, relaxed_at, on_time_long, relaxed_lies, lies_forced, forced_lies, spent_later, spent_bound}
 
@@ -151,9 +151,6 @@ module _ (cs ds rs : List ℕ) (limit : ℕ) where
   after_none (Some h) e = inr (h, refl, over_none h.periods (measured cs ds rs limit h.each) e)
 
 module _ (n T : ℕ) (cs ds rs : List ℕ) where
-  hulled : WindowSet → Option WindowSet
-  hulled w = hull w.periods (kept (flat_allows n T cs ds w.periods) (schedules w.each))
-
   known : (w : WindowSet) (x : List ℕ) → length x ≡ length w.each → flat_allows n T cs ds w.periods x ≡ true → (rated n T cs ds rs).floor w ≡ or_max (cheapest cs ds rs (relaxed ds w.each))
   known w x l e = cond-true (same_size n T (length w.each) w.periods) _ max_charge (subst (λ (k : ℕ). same_size n T k w.periods ≡ true) l (allowed n T cs ds w.periods x e).fits)
 
@@ -162,17 +159,14 @@ module _ (n T : ℕ) (cs ds rs : List ℕ) where
 
   -- A schedule that a cut must keep, in the hull h.
   module _ (w : WindowSet) (limit : ℕ) (x : List ℕ) (p : Proper w) (l : Lies x w.each) (a : flat_allows n T cs ds w.periods x ≡ true) (c : spent rs ds x ≤ limit) where
-    module _ (h : WindowSet) (e : hulled w ≡ Some h) where
+    module _ (h : WindowSet) (e : allowed_hull n T cs ds w ≡ Some h) where
       lies_hull : Lies x h.each
-      unfolding hulled
       lies_hull = enumerated_keeps (flat_allows n T cs ds w.periods) w h x e l a
 
       stay : (k : ℕ) → k < length h.each → Among (slice_index x k) (affordable cs ds rs h.each limit k (slice_index_or h.each k nowhere))
-      unfolding hulled
       stay = let g = allowed n T cs ds w.periods x a in stays cs ds rs h.each limit x g.prompt g.held lies_hull (enumerated_inside (flat_allows n T cs ds w.periods) w h p e).2.starts c
 
-    refused : (hulled w ≡ None) ⊎ ((h : WindowSet) × (hulled w ≡ Some h) × (measured cs ds rs limit h.each ≡ None)) → ⊥
-    unfolding hulled
+    refused : (allowed_hull n T cs ds w ≡ None) ⊎ ((h : WindowSet) × (allowed_hull n T cs ds w ≡ Some h) × (measured cs ds rs limit h.each ≡ None)) → ⊥
     refused (inl g) = enumerated_none (flat_allows n T cs ds w.periods) w.periods w.each x g (l, a)
     refused (inr g) = measured_none cs ds rs g.0.each limit x (stay g.0 g.1) g.2
 
@@ -181,7 +175,6 @@ pub timely_bounded : (T : ℕ) (ds : List ℕ) → T ≤ 64 → outside 1 T ds �
 timely_bounded T ds most timely k h = omega (arith, each_inside 1 T ds timely k h)
 
 pub rated_lawful : (n T : ℕ) (cs ds rs : List ℕ) → n ≤ 32 → ((k : ℕ) → k < length ds → slice_index ds k ≤ 64) → ((k : ℕ) → k < length rs → slice_index rs k ≤ 1000000) → Lawful (rated n T cs ds rs)
-unfolding hulled
 rated_lawful n T cs ds rs few soon cheap =
     record {
       sized = λ P x e. ((allowed n T cs ds P x e).fits, low x (let s = (same_size_parts n T (length x) P (allowed n T cs ds P x e).fits).0 in omega arith));
@@ -194,14 +187,14 @@ rated_lawful n T cs ds rs few soon cheap =
           (λ y h. none_cheaper cs ds rs w.each x y s (on_time_long ds x (allowed n T cs ds w.periods x e).prompt ∙ s.same_size) h.0);
       floor_unfit = λ w p e. cond-false (same_size n T (length w.each) w.periods) _ max_charge e;
       cut_inside = λ w v limit p c e.
-          (let r = after_some cs ds rs limit (hulled n T cs ds rs w) v e in
+          (let r = after_some cs ds rs limit (allowed_hull n T cs ds w) v e in
           let i = enumerated_inside (flat_allows n T cs ds w.periods) w r.0 p r.1 in
           let m = measured_inside cs ds rs r.0.each v.each limit r.3 in
           (r.2 ∙ i.0, inside_trans v.each r.0.each w.each m.0 i.1, proper_inside v r.0 i.2 r.2 m.0 m.1));
-      cut_keeps = λ w v limit x p c e l a d. (let r = after_some cs ds rs limit (hulled n T cs ds rs w) v e in measured_keeps cs ds rs r.0.each limit x (lies_hull n T cs ds rs w limit x p l a d r.0 r.1) (stay n T cs ds rs w limit x p l a d r.0 r.1) v.each r.3);
-      cut_none = λ w limit x p c e l a d. refused n T cs ds rs w limit x p l a d (after_none cs ds rs limit (hulled n T cs ds rs w) e);
+      cut_keeps = λ w v limit x p c e l a d. (let r = after_some cs ds rs limit (allowed_hull n T cs ds w) v e in measured_keeps cs ds rs r.0.each limit x (lies_hull n T cs ds rs w limit x p l a d r.0 r.1) (stay n T cs ds rs w limit x p l a d r.0 r.1) v.each r.3);
+      cut_none = λ w limit x p c e l a d. refused n T cs ds rs w limit x p l a d (after_none cs ds rs limit (allowed_hull n T cs ds w) e);
       cut_single = λ w v limit x p c s e.
-          (let r = after_some cs ds rs limit (hulled n T cs ds rs w) v e in
+          (let r = after_some cs ds rs limit (allowed_hull n T cs ds w) v e in
           let a = enumerated_single (flat_allows n T cs ds w.periods) w r.0 x s r.1 in
           let i = enumerated_inside (flat_allows n T cs ds w.periods) w r.0 p r.1 in
           (a, measured_single cs ds rs r.0.each v.each limit x (single_inside r.0.each w.each x i.2.holds i.1 s) (allowed n T cs ds w.periods x a).prompt i.2.starts r.3));

@@ -1,6 +1,6 @@
 -- What Rated was filled with, and the checks of its fill.
 use Rattle.std.specs.Prelude.{ℕ, Bool, not, ◌&&◌, ◌||◌, List, [], ◌∷◌, length, take, ◌==◌}
-use Rattle.windows.specs.Filling.{out_of_size}
+use Rattle.windows.specs.Sizes.{out_of_size}
 use Rattle.rule.specs.Meaning.{Meaning}
 use Rattle.rule.specs.Tables.{outside}
 use Rattle.rated.specs.declared.rated.Rated.{Rated}
@@ -12,7 +12,7 @@ max_rate = 10000
 
 -- The meaning of the code's rule.
 abbrev pub rated_of : Rated → Meaning
-rated_of r = rated r.count r.last (take r.last r.capacities) (take r.count r.dues) (take r.count r.rates)
+rated_of r = rated r.extent.batches r.extent.periods (take r.extent.periods r.capacities) (take r.extent.batches r.dues) (take r.extent.batches r.rates)
 
 -- n and T, then the lengths of the lists, then each capacity, 0 to 32, each due period, 1 to T, and each rate.
 abbrev pub rated_checks : ℕ → ℕ → List ℕ → List ℕ → List ℕ → List (ℕ × Bool)

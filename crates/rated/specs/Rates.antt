@@ -1,5 +1,7 @@
 -- What Rated means: n batches, T periods, capacities cs, due periods ds, rates rs. Batches are counted from 0.
 use Rattle.std.specs.Prelude.{ℕ, suc, ◌+◌, ◌-◌, ◌*◌, min, Bool, false, cond, List, [], ◌∷◌, map, length, Some, None, Option, nat_le, slice_set}
+use Rattle.std.specs.List.{zip}
+use Rattle.std.specs.Option.{option_map, option_and_then}
 use Rattle.windows.specs.declared.window.Window.{Window}
 use Rattle.windows.specs.WindowSets.{WindowSet, window}
 use Rattle.windows.specs.Schedules.{kept, periods_in, schedules, hull, least}
@@ -16,9 +18,7 @@ spent (r ∷ rs) (d ∷ ds) (v ∷ x) = r * (d - v) + spent rs ds x
 
 -- The relaxed windows: each from period 1 to the lower of its latest and its due period.
 abbrev pub relaxed : List ℕ → List Window → List Window
-relaxed [] ws = []
-relaxed (d ∷ ds) [] = []
-relaxed (d ∷ ds) (w ∷ ws) = window 1 (min w.latest d) ∷ relaxed ds ws
+relaxed ds ws = map (λ p. window 1 (min p.1.latest p.0)) (zip ds ws)
 
 -- The least charge of the schedules in some windows that keep the capacities; none if there is no such schedule.
 abbrev pub cheapest : List ℕ → List ℕ → List ℕ → List Window → Option ℕ
@@ -61,20 +61,22 @@ abbrev pub measured : List ℕ → List ℕ → List ℕ → ℕ → List Window
 measured cs ds rs limit ws = replaced (λ i w. ends_of (affordable cs ds rs ws limit i w)) ws
 
 abbrev pub over : ℕ → Option (List Window) → Option WindowSet
-over T None = None
-over T (Some ws) = Some (record { periods = T; each = ws })
+over T o = option_map (λ ws. record { periods = T; each = ws }) o
 
 abbrev pub after_hull : List ℕ → List ℕ → List ℕ → ℕ → Option WindowSet → Option WindowSet
-after_hull cs ds rs limit None = None
-after_hull cs ds rs limit (Some h) = over h.periods (measured cs ds rs limit h.each)
+after_hull cs ds rs limit o = option_and_then (λ h. over h.periods (measured cs ds rs limit h.each)) o
+
+-- The hull of the schedules in some windows that Flat allows, whatever they cost.
+abbrev pub allowed_hull : ℕ → ℕ → List ℕ → List ℕ → WindowSet → Option WindowSet
+allowed_hull n T cs ds w = hull w.periods (kept (flat_allows n T cs ds w.periods) (schedules w.each))
 
 -- Rated allows what Flat allows and charges by the rates. Its floor is the least charge in the relaxed windows. It cuts to the
--- hull of the allowed schedules, whatever they cost, and then each window of that to its affordable periods.
+-- hull of the allowed schedules, and then each window of that to its affordable periods.
 abbrev pub rated : ℕ → ℕ → List ℕ → List ℕ → List ℕ → Meaning
 rated n T cs ds rs = record {
   fits = same_size n T;
   allows = flat_allows n T cs ds;
   charge = λ P x. spent rs ds x;
   floor = λ w. cond (same_size n T (length w.each) w.periods) (or_max (cheapest cs ds rs (relaxed ds w.each))) max_charge;
-  cut = λ w limit. after_hull cs ds rs limit (hull w.periods (kept (flat_allows n T cs ds w.periods) (schedules w.each)));
+  cut = λ w limit. after_hull cs ds rs limit (allowed_hull n T cs ds w);
 }

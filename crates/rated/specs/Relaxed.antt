@@ -1,6 +1,9 @@
 -- Relaxed windows, one window forced to a period, and the charge by the rates.
-use Rattle.std.specs.Prelude.{◌≡◌, ℕ, zero, suc, ◌-◌, ◌*◌, ◌<◌, ◌≤◌, min, true, List, [], ◌∷◌, length, get_or, nat_le, slice_index, slice_index_or, slice_set, refl}
+use Rattle.std.specs.Prelude.{◌≡◌, ℕ, suc, ◌-◌, ◌*◌, ◌<◌, ◌≤◌, min, true, List, [], ◌∷◌, length, get_or, nat_le, slice_index, slice_index_or, slice_set, refl}
 use Rattle.std.proofs.Common.{sym, ap, ◌∙◌, ⊎_elim, mul-le-mul, mul-le-mul_left, arith, length-set, get_or-set_same, get_or-set_other}
+use Rattle.std.specs.List.{zip}
+use Rattle.std.proofs.lemmas.List.{length-map, get_or-map}
+use Rattle.std.proofs.lemmas.Slice.Zip.{length-zip, get_or-zip}
 use Rattle.std.proofs.lemmas.Bool.{cases_eq, and_parts, false≢true}
 use Rattle.windows.specs.declared.window.Window.{Window}
 use Rattle.windows.specs.WindowSets.{Lies, window, nowhere, earliest_of, latest_of}
@@ -9,20 +12,15 @@ use Rattle.flat.specs.Tested.{on_time_at}
 use Rattle.rated.specs.Rates.{spent, relaxed}
 
 pub length_relaxed : (ds : List ℕ) (ws : List Window) → length ds ≡ length ws → length (relaxed ds ws) ≡ length ws
-length_relaxed [] ws e = e
-length_relaxed (d ∷ ds) [] e = absurd (omega arith)
-length_relaxed (d ∷ ds) (w ∷ ws) e = ap suc (length_relaxed ds ws (omega arith))
+length_relaxed ds ws e = omega (arith, length-map (zip ds ws) (λ p. window 1 (min p.1.latest p.0)), length-zip ds ws)
 
 pub relaxed_short : (ds : List ℕ) (ws : List Window) → length (relaxed ds ws) ≤ length ws
-relaxed_short [] ws = omega arith
-relaxed_short (d ∷ ds) [] = omega arith
-relaxed_short (d ∷ ds) (w ∷ ws) = omega (arith, relaxed_short ds ws)
+relaxed_short ds ws = omega (arith, length-map (zip ds ws) (λ p. window 1 (min p.1.latest p.0)), length-zip ds ws)
 
 pub relaxed_at : (ds : List ℕ) (ws : List Window) (k : ℕ) → length ds ≡ length ws → k < length ws → slice_index_or (relaxed ds ws) k nowhere ≡ window 1 (min (latest_of ws k) (slice_index ds k))
-relaxed_at [] ws k e h = absurd (omega arith)
-relaxed_at (d ∷ ds) [] k e h = absurd (omega arith)
-relaxed_at (d ∷ ds) (w ∷ ws) zero e h = refl
-relaxed_at (d ∷ ds) (w ∷ ws) (suc k) e h = relaxed_at ds ws k (omega arith) (omega arith)
+relaxed_at ds ws k e h =
+    let f : ℕ × Window → Window = λ p. window 1 (min p.1.latest p.0) in
+    get_or-map f (zip ds ws) k (0, nowhere) nowhere (omega (arith, length-zip ds ws)) ∙ ap f (get_or-zip ds ws k (0, nowhere) (omega arith) h)
 
 pub on_time_long : (ds x : List ℕ) → on_time ds x ≡ true → length ds ≡ length x
 on_time_long [] [] e = refl

@@ -1,56 +1,51 @@
-// The ends of the affordable periods of each batch.
-ghost use Rattle.std.specs.Prelude.{◌≡◌, ℕ, ◌<◌, length, MatchOption, slice_index};
+// The outermost periods of windows into which batches can be forced.
+ghost use Rattle.std.specs.Prelude.{◌≡◌, ℕ, ◌+◌, ◌<◌, ◌≤◌, length, MatchOption, slice_index};
 ghost use Rattle.windows.specs.Filling.{set_of};
-ghost use Rattle.rated.specs.Measures.{SomeUnaffordable, First, Final};
+ghost use Rattle.rated.specs.Ends.{inward, Outermost};
+ghost use Rattle.rated.specs.Measures.{SomeUnaffordable};
 
-use crate::measure::affords;
-use sweep::Batches;
-use windows::Windows;
+use crate::measure::Forcing;
+use windows::{Window, Windows};
 
-// The first period of each window into which its batch can be forced up to the cap; nothing if a window has none.
-pub(crate) fn first_affordable(
-    batches: &Batches,
-    table: &[u8; 64],
-    limit: u64,
-    windows: &Windows,
-) -> Option<[u8; 32]>
-    ensures { MatchOption result (SomeUnaffordable batches.now table.now limit (set_of windows.now).each) (λ p. (length p ≡ 32) × ((k : ℕ) → k < length (set_of windows.now).each → First batches.now table.now limit (set_of windows.now).each k (slice_index p k))) }
-{
-    let mut capacities = *table;
-    let mut found = [0; 32];
-    'batches: for i in 0..windows.batches() {
-        let (earliest, latest) = windows.window(i + 1)?;
-        for early in earliest..=latest {
-            if affords(batches, &mut capacities, limit, i, early) {
-                found[i] = early;
-                continue 'batches;
-            }
-        }
-        return None;
-    }
-    Some(found)
+// The two ends of a window.
+#[derive(Clone, Copy)]
+pub(crate) enum End {
+    Earliest,
+    Latest,
 }
 
-// The last such period of each window: one before it may well be too dear.
-pub(crate) fn last_affordable(
-    batches: &Batches,
-    table: &[u8; 64],
-    limit: u64,
-    windows: &Windows,
-) -> Option<[u8; 32]>
-    ensures { MatchOption result (SomeUnaffordable batches.now table.now limit (set_of windows.now).each) (λ p. (length p ≡ 32) × ((k : ℕ) → k < length (set_of windows.now).each → Final batches.now table.now limit (set_of windows.now).each k (slice_index p k))) }
-{
-    let mut capacities = *table;
-    let mut found = [0; 32];
-    'batches: for i in 0..windows.batches() {
-        let (earliest, latest) = windows.window(i + 1)?;
-        for late in (earliest..=latest).rev() {
-            if affords(batches, &mut capacities, limit, i, late) {
-                found[i] = late;
-                continue 'batches;
-            }
+impl End {
+    // The period so many steps inward from this end of a window.
+    fn inward(self, window: Window, steps: u8) -> u8
+        requires { window.earliest + steps ≤ window.latest }
+        ensures { result ≡ inward self window.earliest window.latest steps }
+    {
+        match self {
+            End::Earliest => window.earliest + steps,
+            End::Latest => window.latest - steps,
         }
-        return None;
     }
-    Some(found)
+}
+
+impl Forcing<'_> {
+    // The outermost period of each window, from this end, into which its batch can be forced up to the cap; nothing if a window
+    // has none.
+    pub(crate) fn outermost(&mut self, end: End, windows: &Windows) -> Option<[u8; 32]>
+        ensures back { self.new ≡ self.old }
+        ensures found { MatchOption result (SomeUnaffordable self.old (set_of windows.now).each) (λ p. (length p ≡ 32) × ((k : ℕ) → k < length (set_of windows.now).each → Outermost end self.old (set_of windows.now).each k (slice_index p k))) }
+    {
+        let mut found = [0; 32];
+        'batches: for (batch, &window) in windows.each().iter().enumerate() {
+            // a count of steps serves both ends, and the periods of a range would run from one
+            for steps in 0..=window.latest - window.earliest {
+                let period = end.inward(window, steps);
+                if self.affords(batch, period) {
+                    found[batch] = period;
+                    continue 'batches;
+                }
+            }
+            return None;
+        }
+        Some(found)
+    }
 }

@@ -1,2 +1,4 @@
 pub mod Drawing
 pub mod Fills
+pub mod Counting
+pub mod Asked

@@ -1,6 +1,6 @@
 -- Kinds of load, numbered 1 to K: the order in which a schedule brings them, and the charge from each to the next. ks has the
 -- kind of each batch, and q the charges, row by row: K rows of K entries, one row for each kind that goes before.
-use Rattle.std.specs.Prelude.{ℕ, ◌+◌, ◌-◌, ◌*◌, ◌≤◌, Bool, cond, not, ◌||◌, List, [], ◌∷◌, Some, None, Option, ◌==◌, nat_lt, slice_index}
+use Rattle.std.specs.Prelude.{ℕ, ◌+◌, ◌-◌, ◌*◌, Bool, cond, not, ◌||◌, List, [], ◌∷◌, Some, None, Option, ◌==◌, nat_lt, slice_index}
 use Rattle.std.specs.List.{range_with_len, list_any}
 use Rattle.windows.specs.Schedules.{joined}
 
@@ -39,8 +39,3 @@ out_of_kinds K = nat_lt K 1 || nat_lt 8 K
 -- Some q(a, a) is not 0.
 abbrev pub some_own_charge : ℕ → List ℕ → Bool
 some_own_charge K q = list_any (λ a. not (reload_charge K q a a == 0)) (range_with_len 1 K)
-
--- A kind from 1 to K, or none yet.
-abbrev pub KindOrNone : ℕ → Option ℕ → Type 0
-KindOrNone K None = Unit {0}
-KindOrNone K (Some a) = (1 ≤ a) × (a ≤ K)

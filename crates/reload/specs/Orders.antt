@@ -38,32 +38,32 @@ module _ (K : ℕ) (q : List ℕ) (low : (k : ℕ) → k < length q → slice_in
   pub charge_bound : (P : ℕ) (ks x : List ℕ) → P ≤ 64 → length x ≤ 32 → reloads_of K ks q P x ≤ 20480000
   charge_bound P ks x most few = omega (arith, reloads_most None (in_order P ks x), length_joined ks x (range_with_len 1 P) few, length-range_with_len 1 P)
 
--- The kinds from period t + 1 on, of T periods.
+-- The kinds from period t on, of T periods.
 abbrev pub kinds_after : ℕ → List ℕ → List ℕ → ℕ → List ℕ
-kinds_after T ks x t = joined (λ s. kinds_at s ks x) (range_with_len (t + 1) (T - t))
+kinds_after T ks x t = joined (λ s. kinds_at s ks x) (range_with_len t (T + 1 - t))
 
--- The kinds from batch k of period t + 1 on.
+-- The kinds from batch k of period t on.
 abbrev pub kinds_from : ℕ → List ℕ → List ℕ → ℕ → ℕ → List ℕ
-kinds_from T ks x t k = kinds_at (t + 1) (drop k ks) (drop k x) ++ kinds_after T ks x (t + 1)
+kinds_from T ks x t k = kinds_at t (drop k ks) (drop k x) ++ kinds_after T ks x (t + 1)
 
-pub all_kinds : (T : ℕ) (ks x : List ℕ) → kinds_after T ks x 0 ≡ in_order T ks x
-all_kinds T ks x = let z : T - 0 ≡ T = omega arith in ap (λ m. joined (λ s. kinds_at s ks x) (range_with_len 1 m)) z
+pub all_kinds : (T : ℕ) (ks x : List ℕ) → kinds_after T ks x 1 ≡ in_order T ks x
+all_kinds T ks x = let z : T + 1 - 1 ≡ T = omega arith in ap (λ m. joined (λ s. kinds_at s ks x) (range_with_len 1 m)) z
 
-pub no_kinds : (T : ℕ) (ks x : List ℕ) (t : ℕ) → T ≤ t → kinds_after T ks x t ≡ []
-no_kinds T ks x t h = let z : T - t ≡ 0 = omega arith in ap (λ m. joined (λ s. kinds_at s ks x) (range_with_len (t + 1) m)) z
+pub no_kinds : (T : ℕ) (ks x : List ℕ) (t : ℕ) → T < t → kinds_after T ks x t ≡ []
+no_kinds T ks x t h = let z : T + 1 - t ≡ 0 = omega arith in ap (λ m. joined (λ s. kinds_at s ks x) (range_with_len t m)) z
 
-pub period_opens : (T : ℕ) (ks x : List ℕ) (t : ℕ) → t < T → kinds_after T ks x t ≡ kinds_from T ks x t 0
-period_opens T ks x t h = let z : T - t ≡ suc (T - (t + 1)) = omega arith in ap (λ m. joined (λ s. kinds_at s ks x) (range_with_len (t + 1) m)) z
+pub period_opens : (T : ℕ) (ks x : List ℕ) (t : ℕ) → t ≤ T → kinds_after T ks x t ≡ kinds_from T ks x t 0
+period_opens T ks x t h = let z : T + 1 - t ≡ suc (T + 1 - (t + 1)) = omega arith in ap (λ m. joined (λ s. kinds_at s ks x) (range_with_len t m)) z
 
 pub period_closes : (T : ℕ) (ks x : List ℕ) (t k : ℕ) → length ks ≤ k → kinds_from T ks x t k ≡ kinds_after T ks x (t + 1)
-period_closes T ks x t k h = ap (λ l. kinds_at (t + 1) l (drop k x) ++ kinds_after T ks x (t + 1)) (drop_all k ks h)
+period_closes T ks x t k h = ap (λ l. kinds_at t l (drop k x) ++ kinds_after T ks x (t + 1)) (drop_all k ks h)
 
 module _ (T : ℕ) (ks x : List ℕ) (t k : ℕ) (a : k < length ks) (b : k < length x) where
-  next_batch : kinds_from T ks x t k ≡ cond (slice_index x k == t + 1) (slice_index ks k ∷ kinds_at (t + 1) (drop (k + 1) ks) (drop (k + 1) x)) (kinds_at (t + 1) (drop (k + 1) ks) (drop (k + 1) x)) ++ kinds_after T ks x (t + 1)
-  next_batch = ap (λ l. kinds_at (t + 1) l (drop k x) ++ kinds_after T ks x (t + 1)) (drop_more ks k 0 a) ∙ ap (λ l. kinds_at (t + 1) (slice_index ks k ∷ drop (k + 1) ks) l ++ kinds_after T ks x (t + 1)) (drop_more x k 0 b)
+  next_batch : kinds_from T ks x t k ≡ cond (slice_index x k == t) (slice_index ks k ∷ kinds_at t (drop (k + 1) ks) (drop (k + 1) x)) (kinds_at t (drop (k + 1) ks) (drop (k + 1) x)) ++ kinds_after T ks x (t + 1)
+  next_batch = ap (λ l. kinds_at t l (drop k x) ++ kinds_after T ks x (t + 1)) (drop_more ks k 0 a) ∙ ap (λ l. kinds_at t (slice_index ks k ∷ drop (k + 1) ks) l ++ kinds_after T ks x (t + 1)) (drop_more x k 0 b)
 
-  pub batch_brings : nat_eq (slice_index x k) (t + 1) ≡ true → kinds_from T ks x t k ≡ slice_index ks k ∷ kinds_from T ks x t (k + 1)
-  batch_brings e = next_batch ∙ ap (λ l. l ++ kinds_after T ks x (t + 1)) (cond-true _ (slice_index ks k ∷ kinds_at (t + 1) (drop (k + 1) ks) (drop (k + 1) x)) _ e)
+  pub batch_brings : nat_eq (slice_index x k) t ≡ true → kinds_from T ks x t k ≡ slice_index ks k ∷ kinds_from T ks x t (k + 1)
+  batch_brings e = next_batch ∙ ap (λ l. l ++ kinds_after T ks x (t + 1)) (cond-true _ (slice_index ks k ∷ kinds_at t (drop (k + 1) ks) (drop (k + 1) x)) _ e)
 
-  pub batch_elsewhere : nat_eq (slice_index x k) (t + 1) ≡ false → kinds_from T ks x t k ≡ kinds_from T ks x t (k + 1)
-  batch_elsewhere e = next_batch ∙ ap (λ l. l ++ kinds_after T ks x (t + 1)) (cond-false _ (slice_index ks k ∷ kinds_at (t + 1) (drop (k + 1) ks) (drop (k + 1) x)) _ e)
+  pub batch_elsewhere : nat_eq (slice_index x k) t ≡ false → kinds_from T ks x t k ≡ kinds_from T ks x t (k + 1)
+  batch_elsewhere e = next_batch ∙ ap (λ l. l ++ kinds_after T ks x (t + 1)) (cond-false _ (slice_index ks k ∷ kinds_at t (drop (k + 1) ks) (drop (k + 1) x)) _ e)

@@ -1,35 +1,33 @@
 // The calls on Flat.
 ghost use Rattle.std.specs.Prelude.{◌≡◌, [], ◌∷◌, length, take, MatchOption};
-ghost use Rattle.windows.specs.Refusals.{refused_by, struck};
+ghost use Rattle.windows.specs.Sizes.{Sized};
 ghost use Rattle.windows.specs.Filling.{set_of};
 ghost use Rattle.rule.specs.Narrowing.{Loaded, CutTo};
-ghost use Rattle.flat.specs.Rules.{flat};
+ghost use Rattle.flat.specs.Rules.{flat, least_waited};
 ghost use Rattle.flat.specs.Loading.{flat_of, flat_checks};
 ghost use Rattle.flat.specs.Ends.{Clips, NothingAllowed};
 ghost use Rattle.flat.specs.Laws.{front_bounded, flat_lawful};
 
-use crate::ends::ends_within;
+use crate::ends::Sought;
 use crate::flat::Flat;
 use crate::slots::Slots;
 use line::Batch;
-use rule::{MAX_CHARGE, Rule, padded, some_outside};
+use rule::{MAX_CHARGE, Rule, admit, padded, some_outside};
 use sweep::Batches;
-use windows::{Refusal, Size, Windows};
+use windows::{Extent, Refusal, Size, Windows};
 
-// The first check of a fill that strikes.
-fn fill_refusal(size: Size, capacities: &[u8], dues: &[u8]) -> Option<Refusal>
-    ensures { refused_by result ≡ struck (flat_checks size.batches size.periods capacities.now dues.now) }
+// Judges a fill by the checks in their order.
+fn judge(size: Size, capacities: &[u8], dues: &[u8]) -> Result<Extent, Refusal>
+    ensures { Sized (flat_checks size.batches size.periods capacities.now dues.now) size result }
 {
-    if size.breaks_limits() {
-        return Some(Refusal::Limit);
-    }
+    let extent = Extent::try_from(size)?;
     if capacities.len() != size.periods || dues.len() != size.batches {
-        return Some(Refusal::ListLength);
+        return Err(Refusal::ListLength);
     }
-    if some_outside(capacities, 0, 32) || some_outside(dues, 1, size.periods as u8) {
-        return Some(Refusal::Entry);
+    if some_outside(capacities, 0, 32) || some_outside(dues, 1, extent.periods) {
+        return Err(Refusal::Entry);
     }
-    None
+    Ok(extent)
 }
 
 impl Flat {
@@ -37,13 +35,8 @@ impl Flat {
     pub fn new() -> Flat
         ensures { flat_of result ≡ flat 0 1 (0 ∷ []) [] }
     {
-        let slots = Slots {
-            count: 0,
-            last: 1,
-            capacities: [0; 64],
-        };
         Flat {
-            slots,
+            slots: Slots::new(),
             dues: [0; 32],
         }
     }
@@ -52,12 +45,9 @@ impl Flat {
     pub fn fill(&mut self, size: Size, capacities: &[u8], dues: &[u8]) -> Result<(), Refusal>
         ensures { Loaded flat_of (flat_checks size.batches size.periods capacities.now dues.now) (flat size.batches size.periods capacities.now dues.now) self.old self.new result }
     {
-        if let Some(refusal) = fill_refusal(size, capacities, dues) {
-            return Err(refusal);
-        }
+        let extent = judge(size, capacities, dues)?;
         let slots = Slots {
-            count: size.batches as u8,
-            last: size.periods as u8,
+            extent,
             capacities: padded(capacities, 0),
         };
         *self = Flat {
@@ -74,39 +64,44 @@ impl Flat {
     fn batches(&self, windows: &Windows) -> Option<Batches>
         ensures { MatchOption result (NothingAllowed self.now windows.now) (λ b. Clips self.now windows.now b) }
     {
-        if !self.fits(windows.size()) {
+        let size = windows.size();
+        if !self.fits(size) {
             return None;
         }
-        let mut each = [Batch {
-            earliest: 0,
-            latest: 0,
-            due: 0,
-            rate: 1,
-        }; 32];
-        for k in 0..windows.batches() {
-            if let Some((earliest, latest)) = windows.window(k + 1) {
-                let due = self.dues[k];
-                each[k] = Batch {
-                    earliest,
-                    latest: latest.min(due),
-                    due,
-                    rate: 1,
-                };
-            }
+        let mut each = [Batch::default(); 32];
+        // a loop of its own beside Rated's: where a batch may begin and what it is charged would both be parameters of one
+        for (k, window) in windows.each().iter().enumerate() {
+            let due = self.dues[k];
+            each[k] = Batch {
+                earliest: window.earliest,
+                latest: window.latest.min(due),
+                due,
+                rate: 1,
+            };
         }
-        Batches::new(windows.batches(), windows.periods() as u8, each)
+        Batches::new(size.batches, size.periods as u8, each)
+    }
+
+    // The least that an allowed schedule waits, if there is one.
+    fn least_waited(&self, windows: &Windows) -> Option<u64>
+        ensures { result ≡ least_waited self.now.slots.extent.batches self.now.slots.extent.periods (take self.now.slots.extent.periods self.now.slots.capacities) (take self.now.slots.extent.batches self.now.dues) (set_of windows.now) }
+    {
+        let batches = self.batches(windows)?;
+        let placed = batches.latest(&self.slots.capacities)?;
+        Some(batches.waited(&placed))
     }
 
     // Cuts the windows to the hull of the allowed schedules up to the cap.
     pub(crate) fn cut(&self, windows: &mut Windows, limit: u64) -> Result<(), Refusal>
         ensures { CutTo ((flat_of self.now).cut (set_of windows.old) limit) windows.old windows.new result }
     {
-        let Some(batches) = self.batches(windows) else {
-            return Err(Refusal::NoSchedule);
+        let batches = self.batches(windows).ok_or(Refusal::NoSchedule)?;
+        let sought = Sought {
+            batches,
+            capacities: self.slots.capacities,
+            limit,
         };
-        let Some(ends) = ends_within(&batches, &self.slots.capacities, limit) else {
-            return Err(Refusal::NoSchedule);
-        };
+        let ends = sought.ends().ok_or(Refusal::NoSchedule)?;
         let size = windows.size();
         windows.fill(
             size,
@@ -119,29 +114,18 @@ impl Flat {
 impl Rule for Flat {
     ghost meaning = { flat_of };
 
-    ghost lawful = { λ f. flat_lawful f.slots.count f.slots.last (take f.slots.last f.slots.capacities) (take f.slots.count f.dues) f.slots.few (front_bounded f.slots.count 32 64 f.dues f.dated f.slots.few f.soon) };
+    ghost lawful = { λ f. flat_lawful f.slots.extent.batches f.slots.extent.periods (take f.slots.extent.periods f.slots.capacities) (take f.slots.extent.batches f.dues) f.slots.extent.few (front_bounded f.slots.extent.batches 32 64 f.dues f.dated f.slots.extent.few f.soon) };
 
     fn fits(&self, size: Size) -> bool {
-        size.batches == self.slots.count as usize && size.periods == self.slots.last as usize
+        self.slots.fits(size)
     }
 
     fn floor(&self, windows: &Windows) -> u64 {
-        let Some(batches) = self.batches(windows) else {
-            return MAX_CHARGE;
-        };
-        match batches.latest(&self.slots.capacities) {
-            Some(placed) => batches.waited(&placed),
-            None => MAX_CHARGE,
-        }
+        self.least_waited(windows).unwrap_or(MAX_CHARGE)
     }
 
     fn narrow(&self, windows: &mut Windows, limit: u64) -> Result<(), Refusal> {
-        if !self.fits(windows.size()) {
-            return Err(Refusal::Unfit);
-        }
-        if limit > MAX_CHARGE {
-            return Err(Refusal::CapTooHigh);
-        }
+        admit(self.fits(windows.size()), limit)?;
         self.cut(windows, limit)
     }
 }

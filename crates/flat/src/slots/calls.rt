@@ -1,6 +1,6 @@
 // The calls on Slots.
 ghost use Rattle.std.specs.Prelude.{◌≡◌, [], ◌∷◌, take};
-ghost use Rattle.windows.specs.Refusals.{refused_by, struck};
+ghost use Rattle.windows.specs.Sizes.{Sized};
 ghost use Rattle.rule.specs.Narrowing.{Loaded};
 ghost use Rattle.flat.specs.Rules.{slots};
 ghost use Rattle.flat.specs.Loading.{slots_of, slots_checks};
@@ -8,34 +8,36 @@ ghost use Rattle.flat.specs.Laws.{slots_lawful};
 
 use crate::flat::Flat;
 use crate::slots::Slots;
-use rule::{MAX_CHARGE, Rule, padded, some_outside};
-use windows::{Refusal, Size, Windows};
+use rule::{MAX_CHARGE, Rule, admit, padded, some_outside};
+use windows::{Extent, Refusal, Size, Windows};
 
-// The first check of a fill that strikes.
-fn fill_refusal(size: Size, capacities: &[u8]) -> Option<Refusal>
-    ensures { refused_by result ≡ struck (slots_checks size.batches size.periods capacities.now) }
+// Judges a fill by the checks in their order.
+fn judge(size: Size, capacities: &[u8]) -> Result<Extent, Refusal>
+    ensures { Sized (slots_checks size.batches size.periods capacities.now) size result }
 {
-    if size.breaks_limits() {
-        return Some(Refusal::Limit);
-    }
+    let extent = Extent::try_from(size)?;
     if capacities.len() != size.periods {
-        return Some(Refusal::ListLength);
+        return Err(Refusal::ListLength);
     }
     if some_outside(capacities, 0, 32) {
-        return Some(Refusal::Entry);
+        return Err(Refusal::Entry);
     }
-    None
+    Ok(extent)
 }
 
 impl Slots {
     // No batches, and one period of capacity 0.
     pub fn new() -> Slots
         ensures means { slots_of result ≡ slots 0 1 (0 ∷ []) }
-        ensures room { take result.last result.capacities ≡ 0 ∷ [] }
+        ensures none { result.extent.batches ≡ 0 }
+        ensures one { result.extent.periods ≡ 1 }
+        ensures room { take result.extent.periods result.capacities ≡ 0 ∷ [] }
     {
         Slots {
-            count: 0,
-            last: 1,
+            extent: Extent {
+                batches: 0,
+                periods: 1,
+            },
             capacities: [0; 64],
         }
     }
@@ -44,12 +46,9 @@ impl Slots {
     pub fn fill(&mut self, size: Size, capacities: &[u8]) -> Result<(), Refusal>
         ensures { Loaded slots_of (slots_checks size.batches size.periods capacities.now) (slots size.batches size.periods capacities.now) self.old self.new result }
     {
-        if let Some(refusal) = fill_refusal(size, capacities) {
-            return Err(refusal);
-        }
+        let extent = judge(size, capacities)?;
         *self = Slots {
-            count: size.batches as u8,
-            last: size.periods as u8,
+            extent,
             capacities: padded(capacities, 0),
         };
         Ok(())
@@ -59,10 +58,11 @@ impl Slots {
 impl Rule for Slots {
     ghost meaning = { slots_of };
 
-    ghost lawful = { λ s. slots_lawful s.count s.last (take s.last s.capacities) };
+    ghost lawful = { λ s. slots_lawful s.extent.batches s.extent.periods (take s.extent.periods s.capacities) };
 
+    // a line of each rule by itself: the trait asks for the method
     fn fits(&self, size: Size) -> bool {
-        size.batches == self.count as usize && size.periods == self.last as usize
+        size == Size::from(self.extent)
     }
 
     fn floor(&self, windows: &Windows) -> u64 {
@@ -74,12 +74,7 @@ impl Rule for Slots {
     }
 
     fn narrow(&self, windows: &mut Windows, limit: u64) -> Result<(), Refusal> {
-        if !self.fits(windows.size()) {
-            return Err(Refusal::Unfit);
-        }
-        if limit > MAX_CHARGE {
-            return Err(Refusal::CapTooHigh);
-        }
+        admit(self.fits(windows.size()), limit)?;
         let never_due = Flat {
             slots: *self,
             dues: [64; 32],

@@ -1,19 +1,38 @@
 // The calls on Reload.
 ghost use Rattle.std.specs.Prelude.{◌≡◌, ◌*◌, true, [], ◌∷◌, length, take, if◌then◌else◌, Some, None};
-ghost use Rattle.windows.specs.Filling.{set_of};
+ghost use Rattle.windows.specs.Sizes.{Sized};
 ghost use Rattle.rule.specs.Narrowing.{Loaded};
-ghost use Rattle.flat.specs.Tests.{same_size};
-ghost use Rattle.reload.specs.Loads.{KindOrNone, reload_charge, drawn};
+ghost use Rattle.reload.specs.Loads.{reload_charge, drawn};
 ghost use Rattle.reload.specs.Rules.{places_of, reload};
 ghost use Rattle.reload.specs.Loading.{reload_of, reload_checks};
 ghost use Rattle.reload.specs.Laws.{reload_lawful};
 ghost use Rattle.reload.specs.Held.{charges_low};
 
 use crate::reload::Reload;
-use crate::schedule::{apart, places, some_wide};
-use crate::table::{breaks_kinds, some_above, some_own};
-use rule::{MAX_CHARGE, Rule, padded, some_outside};
-use windows::{Refusal, Size, Windows};
+use crate::schedule::{apart, some_wide};
+use crate::table::{breaks_kinds, charge_between, some_above, some_own};
+use rule::{MAX_CHARGE, Rule, admit, padded, some_outside};
+use windows::{Extent, Refusal, Size, Window, Windows};
+
+// Judges a fill by the checks in their order.
+fn judge(size: Size, kinds_count: usize, kinds: &[u8], charges: &[u16]) -> Result<Extent, Refusal>
+    ensures { Sized (reload_checks size.batches size.periods kinds_count kinds.now charges.now) size result }
+{
+    let extent = Extent::try_from(size)?;
+    if breaks_kinds(kinds_count) {
+        return Err(Refusal::Limit);
+    }
+    if kinds.len() != size.batches || charges.len() != kinds_count * kinds_count {
+        return Err(Refusal::ListLength);
+    }
+    if some_outside(kinds, 1, kinds_count as u8)
+        || some_above(charges, 10_000)
+        || some_own(kinds_count as u8, charges)
+    {
+        return Err(Refusal::Entry);
+    }
+    Ok(extent)
+}
 
 impl Reload {
     // No batches, one period, and one kind.
@@ -21,8 +40,10 @@ impl Reload {
         ensures { reload_of result ≡ reload 0 1 1 [] (0 ∷ []) }
     {
         Reload {
-            count: 0,
-            last: 1,
+            extent: Extent {
+                batches: 0,
+                periods: 1,
+            },
             kinds_count: 1,
             kinds: [0; 32],
             charges: [0; 64],
@@ -39,21 +60,9 @@ impl Reload {
     ) -> Result<(), Refusal>
         ensures { Loaded reload_of (reload_checks size.batches size.periods kinds_count kinds.now charges.now) (reload size.batches size.periods kinds_count kinds.now charges.now) self.old self.new result }
     {
-        if size.breaks_limits() || breaks_kinds(kinds_count) {
-            return Err(Refusal::Limit);
-        }
-        if kinds.len() != size.batches || charges.len() != kinds_count * kinds_count {
-            return Err(Refusal::ListLength);
-        }
-        if some_outside(kinds, 1, kinds_count as u8)
-            || some_above(charges, 10_000)
-            || some_own(kinds_count, charges)
-        {
-            return Err(Refusal::Entry);
-        }
+        let extent = judge(size, kinds_count, kinds, charges)?;
         *self = Reload {
-            count: size.batches as u8,
-            last: size.periods as u8,
+            extent,
             kinds_count: kinds_count as u8,
             kinds: padded(kinds, 0),
             charges: padded(charges, 0),
@@ -63,91 +72,76 @@ impl Reload {
 }
 
 impl Reload {
-    // The charge from kind a to kind b.
-    fn between(&self, a: u8, b: u8) -> u16
-        requires before { KindOrNone self.now.kinds_count (Some a) }
-        requires after { KindOrNone self.now.kinds_count (Some b) }
-        ensures { result ≡ reload_charge self.now.kinds_count (take (self.now.kinds_count * self.now.kinds_count) self.now.charges) a b }
+    // The charge from a kind to a kind; 0 where the table has none.
+    fn between(&self, before: u8, kind: u8) -> u16
+        ensures { result ≡ reload_charge self.now.kinds_count (take (self.now.kinds_count * self.now.kinds_count) self.now.charges) before kind }
     {
-        let row = (a as usize - 1) * self.kinds_count as usize;
-        self.charges[row + (b as usize - 1)]
+        let kinds_count = self.kinds_count as usize;
+        let charges = &self.charges[..kinds_count * kinds_count];
+        charge_between(self.kinds_count, charges, before, kind)
     }
 
-    // What a kind draws after the one before it.
+    // What a kind draws after the one before it; the first draws nothing.
     fn load(&self, before: Option<u8>, kind: u8) -> u64
-        requires before { KindOrNone self.now.kinds_count before }
-        requires after { KindOrNone self.now.kinds_count (Some kind) }
         ensures { result ≡ drawn self.now.kinds_count (take (self.now.kinds_count * self.now.kinds_count) self.now.charges) before kind }
     {
-        match before {
-            Some(previous) => self.between(previous, kind) as u64,
-            None => 0,
-        }
+        before.map_or(0, |before| self.between(before, kind) as u64)
     }
 
-    // The charge of a schedule.
-    fn charge(&self, places: &[u8]) -> u64
-        requires { length places.now ≡ self.now.count }
-        ensures { result ≡ (reload_of self.now).charge self.now.last places.now }
+    // The charge of the schedule of windows of one period each.
+    fn charge(&self, each: &[Window]) -> u64
+        requires { length each.now ≡ self.now.extent.batches }
+        ensures { result ≡ (reload_of self.now).charge self.now.extent.periods (places_of each.now) }
     {
         let mut total = 0;
         let mut before = None;
-        for t in 0..self.last {
-            for k in 0..places.len() {
-                if places[k] == t + 1 {
-                    total += self.load(before, self.kinds[k]);
-                    before = Some(self.kinds[k]);
+        // in order of period: a batch's period is found, and nothing is indexed by it
+        for t in 1..=self.extent.periods {
+            for (window, &kind) in each.iter().zip(&self.kinds) {
+                if window.earliest == t {
+                    total += self.load(before, kind);
+                    before = Some(kind);
                 }
             }
         }
         total
     }
 
-    // The charge of the schedule of the earliest periods, if it is allowed.
-    fn allowed_charge(&self, windows: &Windows) -> Option<u64>
-        requires { same_size self.now.count self.now.last (length (set_of windows.now).each) (set_of windows.now).periods ≡ true }
-        ensures { result ≡ (if (reload_of self.now).allows (set_of windows.now).periods (places_of (set_of windows.now).each) then Some ((reload_of self.now).charge (set_of windows.now).periods (places_of (set_of windows.now).each)) else None) }
+    // The charge of the schedule of windows of one period each, if it is allowed.
+    fn allowed_charge(&self, each: &[Window]) -> Option<u64>
+        requires { length each.now ≡ self.now.extent.batches }
+        ensures { result ≡ (if (reload_of self.now).allows self.now.extent.periods (places_of each.now) then Some ((reload_of self.now).charge self.now.extent.periods (places_of each.now)) else None) }
     {
-        let table = places(windows);
-        let schedule = &table[0..windows.batches()];
-        if apart(schedule, self.last) {
-            Some(self.charge(schedule))
-        } else {
-            None
-        }
+        apart(each, self.extent.periods).then(|| self.charge(each))
     }
 }
 
 impl Rule for Reload {
     ghost meaning = { reload_of };
 
-    ghost lawful = { λ r. reload_lawful r.count r.last r.kinds_count _ _ r.few r.most (charges_low r) };
+    ghost lawful = { λ r. reload_lawful r.extent.batches r.extent.periods r.kinds_count _ _ r.extent.few r.extent.most (charges_low r) };
 
+    // a line of each rule by itself: the trait asks for the method
     fn fits(&self, size: Size) -> bool {
-        size.batches == self.count as usize && size.periods == self.last as usize
+        size == Size::from(self.extent)
     }
 
     fn floor(&self, windows: &Windows) -> u64 {
         if !self.fits(windows.size()) {
             return MAX_CHARGE;
         }
-        if some_wide(windows) {
+        if some_wide(windows.each()) {
             return 0;
         }
-        self.allowed_charge(windows).unwrap_or(0)
+        self.allowed_charge(windows.each()).unwrap_or(0)
     }
 
     fn narrow(&self, windows: &mut Windows, limit: u64) -> Result<(), Refusal> {
-        if !self.fits(windows.size()) {
-            return Err(Refusal::Unfit);
-        }
-        if limit > MAX_CHARGE {
-            return Err(Refusal::CapTooHigh);
-        }
-        if some_wide(windows) {
+        admit(self.fits(windows.size()), limit)?;
+        if some_wide(windows.each()) {
             return Ok(());
         }
-        match self.allowed_charge(windows) {
+        match self.allowed_charge(windows.each()) {
             Some(charge) if charge <= limit => Ok(()),
             _ => Err(Refusal::NoSchedule),
         }

@@ -1,9 +1,11 @@
-use Rattle.std.proofs.Common.{sym, arith}
-use Rattle.reload.specs.Settled.{crowded, uncrowded}
+use Rattle.std.proofs.Common.{not, ltb, rules, arith, sym, ap, ◌∙◌}
+use Rattle.windows.specs.Schedules.{count}
+use Rattle.reload.specs.Rules.{places_of}
+use Rattle.reload.proofs.Counting.{any_up, uncrowded}
 use Rattle.reload.proofs.schedule.apart.Goals as goal
 
 pub returns : goal.returns
-returns c = sym (uncrowded c.args.periods c.args.places.now (λ t h. c.loop-t.invariant t (omega arith)))
-
-pub returns-then-batches_in-gt1 : goal.returns-then-batches_in-gt1
-returns-then-batches_in-gt1 c = sym (crowded c.args.periods c.loop-t.t c.args.places.now c.loop-t-test.true (omega (arith, c.batches_in.ensures)))
+returns c =
+    let T = c.args.periods in
+    let x = places_of c.args.each.now in
+    ap not (any_up (λ t. ltb 1 (count t x)) (λ v b k e. search rules) c.new.result 1 T c.new.ensures.exhausted c.new.ensures.start (omega (arith, c.new.ensures.end)) c.any.result c.any.ensures.runs) ∙ sym (uncrowded T 1 x)

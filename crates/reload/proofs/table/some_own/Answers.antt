@@ -1,9 +1,10 @@
-use Rattle.std.proofs.Common.{sym, arith}
-use Rattle.reload.specs.Tables.{own_here, none_own}
+use Rattle.std.proofs.Common.{not, eqb, rules, arith}
+use Rattle.reload.specs.Loads.{reload_charge}
+use Rattle.reload.proofs.Counting.{any_up}
 use Rattle.reload.proofs.table.some_own.Goals as goal
 
-pub returns-then-charges-a-ne0 : goal.returns-then-charges-a-ne0
-returns-then-charges-a-ne0 c = sym (own_here c.args.kinds_count c.args.charges.now c.loop-a.a c.loop-a-test.true c.if-charges-a-ne0.true)
-
 pub returns : goal.returns
-returns c = sym (none_own c.args.kinds_count c.args.charges.now (λ j h. c.loop-a.invariant j (omega arith)))
+returns c =
+    let K = c.args.kinds_count in
+    let q = c.args.charges.now in
+    any_up (λ a. not (eqb (reload_charge K q a a) 0)) (λ v b k e. search rules) c.new.result 1 K c.new.ensures.exhausted c.new.ensures.start (omega (arith, c.new.ensures.end)) c.any.result c.any.ensures.runs

@@ -1,23 +1,16 @@
-use Rattle.std.proofs.Common.{length, take, sym, ap, ◌∙◌}
-use Rattle.rule.proofs.Entries.{padded_front, length_padded}
+use Rattle.std.proofs.Common.{take, ap, ◌∙◌}
+use Rattle.windows.specs.Refusals.{struck}
+use Rattle.windows.proofs.Fills.{at_extent}
+use Rattle.rule.proofs.Entries.{padded_front}
 use Rattle.flat.specs.Rules.{slots}
+use Rattle.flat.specs.Loading.{slots_checks}
 use Rattle.flat.proofs.Fills.{slots_accepted}
 use Rattle.flat.proofs.slots.Slots.fill.Goals as goal
 
-pub invariant_of-self : goal.invariant_of-self
-invariant_of-self c =
-    let ok = slots_accepted c.args.size.batches c.args.size.periods c.args.capacities.now c.in_default.ensures in
-    record {
-      long = ap length c.padded.ensures ∙ length_padded 64 c.args.capacities.now;
-      few = ok.few;
-      some = ok.some;
-      most = ok.most;
-    }
-
 pub returns : goal.returns
 returns c =
-    let n = c.args.size.batches in
-    let T = c.args.size.periods in
+    let e = c.in_ok-extent.extent in
+    let held = c.in_ok-extent.ensures in
     let cs = c.args.capacities.now in
-    let ok = slots_accepted n T cs c.in_default.ensures in
-    (sym c.in_default.ensures, ap (slots n T) (ap (take T) c.padded.ensures ∙ padded_front 64 T cs ok.rooms ok.most))
+    let ok = slots_accepted e.batches e.periods cs (at_extent (λ n T. struck (slots_checks n T cs)) _ _ _ _ held.1 held.2 ∙ held.0) in
+    (held.0, ap (slots e.batches e.periods) (ap (take e.periods) c.padded.ensures ∙ padded_front 64 e.periods cs ok.rooms e.most) ∙ at_extent (λ n T. slots n T cs) _ _ _ _ held.1 held.2)

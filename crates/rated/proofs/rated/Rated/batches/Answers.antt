@@ -1,9 +1,11 @@
-use Rattle.std.proofs.Common.{true, arith}
+use Rattle.std.proofs.Common.{true, length, ap, arith}
 use Rattle.flat.specs.Tested.{fit_known}
 use Rattle.rated.proofs.Pricing.{prices}
 use Rattle.rated.proofs.rated.Rated.batches.Goals as goal
 
 pub returns : goal.returns
 returns c =
-    prices c.args.self.now c.args.windows.now (fit_known true c.args.self.now.count c.args.self.now.last _ _ c.size.result.batches c.size.result.periods c.if-not-fits.ensures c.size.ensures.batches c.size.ensures.periods) c.batches.result c.periods.result c.loop-k.each c.batches.ensures c.periods.ensures c.loop-k.invariant.0
-    (λ k h. c.loop-k.invariant.1 k (omega (arith, c.batches.ensures, c.batches-k-end.ensures))) c.new.result c.new.ensures
+    let r = c.args.self.now in
+    let size = c.size-size in
+    let fits = fit_known true r.extent.batches r.extent.periods _ _ size.result.batches size.result.periods c.if-not-fits.ensures size.ensures.batches size.ensures.periods in
+    prices r c.args.windows.now fits size.result.batches size.result.periods c.loop-k.each size.ensures.batches size.ensures.periods c.loop-k.invariant.0 (λ k h. c.loop-k.invariant.1 k (omega (arith, size.ensures.batches, ap length c.each-window-items.ensures))) c.new.result c.new.ensures

@@ -1,16 +1,6 @@
-use Rattle.std.proofs.Common.{refl, arith}
+use Rattle.std.proofs.Common.{arith}
 use Rattle.rule.proofs.Entries.{zeros}
 use Rattle.rated.proofs.rated.Rated.new.Goals as goal
 
-pub invariant_of-result : goal.invariant_of-result
-invariant_of-result c = record {
-  long = refl;
-  dated = refl;
-  priced = refl;
-  few = omega arith;
-  some = omega arith;
-  most = omega arith;
-  roomy = refl;
-  timely = refl;
-  cheap = (λ k. omega (arith, zeros 32 k));
-}
+pub invariant_of-result-2-clause-cheap : goal.invariant_of-result-2-clause-cheap
+invariant_of-result-2-clause-cheap c = λ k. omega (arith, zeros 32 k)
