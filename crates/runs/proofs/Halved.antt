@@ -4,10 +4,10 @@ use Rattle.std.proofs.lemmas.Bool.{cases_lt, ltb-true, ltb-false}
 use Rattle.windows.specs.declared.window.Window.{Window}
 use Rattle.windows.specs.WindowSets.{WindowSet, Lies, Inside, Proper, earliest_of, latest_of, nowhere}
 use Rattle.windows.specs.Halves.{first_wide, middle, earlier_half, later_half, halved}
-use Rattle.windows.proofs.Lying.{Nonempty, lies_cons, lies_tail, lies_low, lies_high, lies_empty}
+use Rattle.windows.proofs.Lying.{Nonempty, lies_cons, lies_tail, lies_low, lies_high, lies_empty, inside_tail}
 use Rattle.runs.specs.Law.{Later, product}
 use Rattle.runs.specs.Sizes.{Sized}
-use Rattle.runs.proofs.Insides.{Narrow, nonempty_cons, nonempty_head, nonempty_tail, inside_cons, inside_tail, inside_self}
+use Rattle.runs.proofs.Insides.{Narrow, nonempty_cons, nonempty_head, nonempty_tail, inside_cons, inside_self}
 use Rattle.runs.proofs.Orders.{later_here, later_cons}
 
 pub sized_inside : (vs ws : List Window) (t : ℕ) → Inside vs ws → Sized ws t → Sized vs t

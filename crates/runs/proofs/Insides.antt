@@ -1,10 +1,9 @@
 -- Windows inside windows, one batch more; the product of their lengths; windows of one period each.
 use Rattle.std.proofs.Common.{ℕ, zero, suc, ◌<◌, ◌≤◌, List, [], ◌∷◌, length, sym, refl, ap, ◌∙◌, suc-le-suc, le_of_suc-le-suc, mul-le-mul, mul-pos, arith}
-use native.Mathlib.Nat.{suc_inj}
 use Rattle.windows.specs.declared.window.Window.{Window}
 use Rattle.windows.specs.WindowSets.{Lies, Inside, Single, earliest_of, latest_of}
 use Rattle.windows.specs.Halves.{first_periods}
-use Rattle.windows.proofs.Lying.{Nonempty}
+use Rattle.windows.proofs.Lying.{Nonempty, inside_tail}
 use Rattle.windows.proofs.Halving.{length_periods, periods_at}
 use Rattle.runs.specs.Law.{product}
 
@@ -28,9 +27,6 @@ inside_cons v w vs ws lo hi i = record { same_size = ap suc i.same_size; not_bef
     not_after : (k : ℕ) → k < length (w ∷ ws) → latest_of (v ∷ vs) k ≤ latest_of (w ∷ ws) k
     not_after zero h = hi
     not_after (suc k) h = i.not_after k (le_of_suc-le-suc h)
-
-pub inside_tail : {v w : Window} {vs ws : List Window} → Inside (v ∷ vs) (w ∷ ws) → Inside vs ws
-inside_tail i = record { same_size = suc_inj i.same_size; not_before = λ k h. i.not_before (suc k) (suc-le-suc h); not_after = λ k h. i.not_after (suc k) (suc-le-suc h) }
 
 pub inside_self : (ws : List Window) → Inside ws ws
 inside_self ws = record { same_size = refl; not_before = λ k h. omega arith; not_after = λ k h. omega arith }

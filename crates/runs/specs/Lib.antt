@@ -1,3 +1,4 @@
 pub mod Run
 pub mod Law
 pub mod Sizes
+pub mod Words

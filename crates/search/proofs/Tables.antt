@@ -1,109 +1,72 @@
 -- The table of open parts as a list with the newest first, and the room in it.
-use Rattle.std.proofs.Common.{◌≡◌, ℕ, zero, suc, ◌+◌, ◌-◌, ◌*◌, ◌<◌, ◌≤◌, false, List, [], ◌∷◌, map, length, get_or, set, sym, refl, ap, ◌∙◌, subst, arith}
+use Rattle.std.proofs.Common.{◌≡◌, ℕ, ◌+◌, ◌-◌, ◌*◌, ◌<◌, ◌≤◌, false, List, [], ◌∷◌, length, get_or, set, Option, subst, sym, arith}
 use mathlib.Core.Logic.{∥∥₁_map, ∥∥₁_elim}
 use native.Mathlib.Bridge.{le_prop}
-use Rattle.std.proofs.lemmas.List.{get_or-set_same, get_or-set_other, get_or-map, map-set, length-map, length-set}
 use Rattle.std.proofs.lemmas.Bool.{leb-false}
+use Rattle.std.proofs.lemmas.List.{take-set-le}
+use Rattle.std.proofs.lemmas.Grind.{common_steps}
 use Rattle.windows.specs.declared.windows.Windows.{Windows}
 use Rattle.windows.specs.WindowSets.{WindowSet, Inside}
-use Rattle.windows.specs.Filling.{set_of, blank}
+use Rattle.windows.specs.Filling.{set_of}
 use Rattle.windows.specs.Halves.{first_wide, one_each, earlier, later}
 use Rattle.windows.proofs.Lying.{Nonempty}
 use Rattle.windows.proofs.Held.{held_proper}
-use Rattle.runs.specs.declared.phase.Phase.TheVariants.{Running}
-use Rattle.runs.specs.Run.{phase_of}
 use Rattle.runs.proofs.Halved.{sized_inside, sized_proper, halves}
-use Rattle.search.specs.Table.{newest_first, stack, Roomy}
+use Rattle.rule.specs.Meaning.{Meaning}
+use Rattle.runs.specs.declared.phase.Phase.TheVariants.{Running}
+use Rattle.search.specs.declared.inner.Inner.{Inner}
+use Rattle.search.specs.Table.{stack, Roomy}
+use Rattle.search.specs.Left.{Halved}
 
-pub length_newest : {X : Type 0} (xs : List X) (n : ℕ) (d : X) → length (newest_first xs n d) ≡ n
-length_newest xs zero d = refl
-length_newest xs (suc n) d = ap suc (length_newest xs n d)
+pub stack_size : (table : List Windows) (n : ℕ) → n ≤ length table → length (stack table n) ≡ n
+stack_size table n h = grind (arith, common_steps)
 
 -- A write at or above the top is not seen.
-write_above : {X : Type 0} (xs : List X) (n i : ℕ) (v d : X) → n ≤ i → newest_first (set xs i v) n d ≡ newest_first xs n d
-write_above xs zero i v d h = refl
-write_above xs (suc n) i v d h =
-    let e : get_or (set xs i v) n d ≡ get_or xs n d = get_or-set_other xs i n v d (omega arith) in
-    let r : newest_first (set xs i v) n d ≡ newest_first xs n d = write_above xs n i v d (omega arith) in
-    cc
+pub stack_above : (table : List Windows) (n i : ℕ) (v : Windows) → n ≤ i → stack (set table i v) n ≡ stack table n
+stack_above table n i v h = simp take-set-le
 
--- The room that a part and its halves have.
-roomy_inside : (p v : WindowSet) (ps : List WindowSet) → Inside v.each p.each → Roomy (p ∷ ps) → Roomy (v ∷ ps)
-roomy_inside p v ps i r = ((r.0.0, r.0.1, sized_inside v.each p.each r.0.0 i r.0.2), r.1)
+-- The newest part of a table with some.
+pub stack_top : (table : List Windows) (n : ℕ) (d : Windows) → 0 < n → n ≤ length table → stack table n ≡ set_of (get_or table (n - 1) d) ∷ stack table (n - 1)
+stack_top table n d some h = grind (arith, common_steps)
 
-roomy_split : (p : WindowSet) (ps : List WindowSet) → Nonempty p.each → one_each p ≡ false → Roomy (p ∷ ps) → Roomy (later p ∷ (earlier p ∷ ps))
-roomy_split p ps h b r =
-    let d = (halves p.each h (leb-false (length p.each) (first_wide p.each) b)).sized r.0.0 r.0.2 in
-    ((d.0, omega (arith, r.0.1, d.1), d.3), ((d.0, omega (arith, r.0.1, d.1), d.2), r.1))
+-- A write at the top, with one part more, pushes.
+pub stack_push : (table : List Windows) (n : ℕ) (v : Windows) → n < length table → stack (set table n v) (n + 1) ≡ set_of v ∷ stack table n
+stack_push table n v h = grind (arith, common_steps)
 
+-- Two more, the first written in two steps.
+pub stack_halves : (table : List Windows) (n : ℕ) (u half : Windows) → n + 1 < length table → stack (set (set table n u) (n + 1) half) (n + 2) ≡ set_of half ∷ (set_of u ∷ stack table n)
+stack_halves table n u half h = grind (arith, common_steps)
+
+-- A part has room for the splits that can still come of it, and so have its halves.
 pub room_one : (w : Windows) → ∥ Roomy (set_of w ∷ []) ∥₁
 room_one w = let p = held_proper w in ∣ ((6 * length (set_of w).each, omega (arith, p.few), sized_proper (set_of w) p), tt) ∣₁
 
-stack_above : (table : List Windows) (n i : ℕ) (v : Windows) → n ≤ i → stack (set table i v) n ≡ stack table n
-stack_above table n i v h = ap (λ (l : List WindowSet). newest_first l n blank) (map-set set_of table i v) ∙ write_above (map set_of table) n i (set_of v) blank h
+-- The newest part goes, whatever is written in its place.
+pub room_below : (table : List Windows) (n : ℕ) (v : Windows) → 0 < n → n ≤ length table → ∥ Roomy (stack table n) ∥₁ → ∥ Roomy (stack (set table (n - 1) v) (n - 1)) ∥₁
+room_below table n v some h room =
+    let P : List WindowSet → Type 0 = Roomy in
+    ∥∥₁_map room (λ r. subst P (sym (stack_above table (n - 1) (n - 1) v (omega arith))) (subst P (stack_top table n v some h) r).1)
 
-set_at : (table : List Windows) (i : ℕ) (v : Windows) → i < length table → get_or (map set_of (set table i v)) i blank ≡ set_of v
-set_at table i v h = ap (λ (l : List WindowSet). get_or l i blank) (map-set set_of table i v) ∙ get_or-set_same (map set_of table) i (set_of v) blank (omega (arith, length-map table set_of))
+roomy_halves : (p v : WindowSet) (ps : List WindowSet) → Inside v.each p.each → Nonempty v.each → one_each v ≡ false → Roomy (p ∷ ps) → Roomy (later v ∷ (earlier v ∷ ps))
+roomy_halves p v ps i h b r =
+    let d = (halves v.each h (leb-false (length v.each) (first_wide v.each) b)).sized r.0.0 (sized_inside v.each p.each r.0.0 i r.0.2) in
+    ((d.0, omega (arith, r.0.1, d.1), d.3), ((d.0, omega (arith, r.0.1, d.1), d.2), r.1))
 
--- A write at the top, with one part more, pushes.
-pub stack_push : (table : List Windows) (n : ℕ) (v : Windows) → n < length table → stack (set table n v) (suc n) ≡ set_of v ∷ stack table n
-stack_push table n v h =
-    let e = set_at table n v h in
-    let r = stack_above table n n v (omega arith) in
-    cc
+-- The newest part of a running search is split, and the later half goes on top of it.
+module _ {m : Meaning} {limit : Option ℕ} {u half : Windows} (i : Inner) (on : i.phase ≡ Running) (d : Windows) (h : Halved m limit (get_or i.parts (i.count - 1) d) u half) where
+  room_halves : ∥ Roomy (set_of half ∷ (set_of u ∷ stack i.parts (i.count - 1))) ∥₁
+  room_halves =
+      let P : List WindowSet → Type 0 = Roomy in
+      let w = set_of (get_or i.parts (i.count - 1) d) in
+      let v = set_of h.narrowed in
+      let below = stack i.parts (i.count - 1) in
+      let a = h.halves.1 in
+      let b = h.halves.2 in
+      let e : later v ∷ (earlier v ∷ below) ≡ set_of half ∷ (set_of u ∷ below) = cc in
+      ∥∥₁_map i.room (λ r. subst P e (roomy_halves w v below h.inside (held_proper h.narrowed).holds h.halves.0 (subst P (stack_top i.parts i.count d (i.busy on) (omega (arith, i.long, i.few))) r)))
 
--- The newest part of a table with some.
-module _ (table : List Windows) (n : ℕ) (some : 0 < n) where
-  pub stack_top : stack table n ≡ get_or (map set_of table) (n - 1) blank ∷ stack table (n - 1)
-  stack_top = go n some
-    where
-      go : (k : ℕ) → 0 < k → stack table k ≡ get_or (map set_of table) (k - 1) blank ∷ stack table (k - 1)
-      go zero h = absurd (omega arith)
-      go (suc k) h = let e : suc k - 1 ≡ k = omega arith in rw e
+  pub room_left : i.count < 193
+  room_left = ∥∥₁_elim room_halves le_prop (λ r. omega (arith, r.0.1, stack_size i.parts (i.count - 1) (omega (arith, i.long, i.few))))
 
-  pub phase_on : phase_of (stack table n) ≡ Running
-  phase_on = ap phase_of stack_top
-
-  pub room_older : ∥ Roomy (stack table n) ∥₁ → ∥ Roomy (stack table (n - 1)) ∥₁
-  room_older r = ∥∥₁_map r (λ q. (let P : List WindowSet → Type 0 = Roomy in (subst P stack_top q).1))
-
-  module _ (long : n ≤ length table) where
-    pub top_is : (d : Windows) → get_or (map set_of table) (n - 1) blank ≡ set_of (get_or table (n - 1) d)
-    top_is d = get_or-map set_of table (n - 1) d blank (omega arith)
-
-    -- The newest part changed in its place.
-    module _ (v : Windows) where
-      pub top_set : get_or (map set_of (set table (n - 1) v)) (n - 1) blank ≡ set_of v
-      top_set = set_at table (n - 1) v (omega arith)
-
-      pub older_set : stack (set table (n - 1) v) (n - 1) ≡ stack table (n - 1)
-      older_set = stack_above table (n - 1) (n - 1) v (omega arith)
-
-      stack_set : stack (set table (n - 1) v) n ≡ set_of v ∷ stack table (n - 1)
-      stack_set = let e : n ≡ suc (n - 1) = omega arith in subst (λ (k : ℕ). stack (set table (n - 1) v) k ≡ set_of v ∷ stack table (n - 1)) (sym e) (stack_push table (n - 1) v (omega arith))
-
-      pub room_inside : (d : Windows) → Inside (set_of v).each (set_of (get_or table (n - 1) d)).each → ∥ Roomy (stack table n) ∥₁ → ∥ Roomy (stack (set table (n - 1) v) n) ∥₁
-      room_inside d i r =
-          let P : List WindowSet → Type 0 = Roomy in
-          ∥∥₁_map r (λ q. subst P (sym stack_set) (roomy_inside (get_or (map set_of table) (n - 1) blank) (set_of v) (stack table (n - 1)) (subst (λ (p : WindowSet). Inside (set_of v).each p.each) (sym (top_is d)) i) (subst P stack_top q)))
-
-      -- The newest part split in its place, and the later half pushed.
-      module _ (d half : Windows) (wide : one_each (set_of (get_or table (n - 1) d)) ≡ false) (first : set_of v ≡ earlier (set_of (get_or table (n - 1) d))) (second : set_of half ≡ later (set_of (get_or table (n - 1) d))) (room : ∥ Roomy (stack table n) ∥₁) where
-        room_halves : ∥ Roomy (set_of half ∷ (set_of v ∷ stack table (n - 1))) ∥₁
-        room_halves =
-            let P : List WindowSet → Type 0 = Roomy in
-            let w = get_or table (n - 1) d in
-            let e : later (set_of w) ∷ (earlier (set_of w) ∷ stack table (n - 1)) ≡ set_of half ∷ (set_of v ∷ stack table (n - 1)) = cc in
-            ∥∥₁_map room (λ q. subst P e (roomy_split (set_of w) (stack table (n - 1)) (held_proper w).holds wide (subst P (stack_top ∙ ap (λ (p : WindowSet). p ∷ stack table (n - 1)) (top_is d)) q)))
-
-        pub room_left : n < 193
-        room_left = ∥∥₁_elim room_halves le_prop (λ r. omega (arith, r.0.1, length_newest (map set_of table) (n - 1) blank))
-
-        pub stack_halves : length table ≡ 193 → stack (set (set table (n - 1) v) (n - 1 + 1) half) (n + 1) ≡ set_of half ∷ (set_of v ∷ stack table (n - 1))
-        stack_halves l =
-            let a : n - 1 + 1 ≡ n = omega arith in
-            let b : n + 1 ≡ suc n = omega arith in
-            rw (a, b) (stack_push (set table (n - 1) v) n half (omega (arith, length-set table (n - 1) v, room_left)) ∙ ap (λ (ps : List WindowSet). set_of half ∷ ps) stack_set)
-
-        pub room_pushed : length table ≡ 193 → ∥ Roomy (stack (set (set table (n - 1) v) (n - 1 + 1) half) (n + 1)) ∥₁
-        room_pushed l = subst (λ (ps : List WindowSet). ∥ Roomy ps ∥₁) (sym (stack_halves l)) room_halves
+  pub room_pushed : ∥ Roomy (stack (set (set i.parts (i.count - 1) u) (i.count - 1 + 1) half) (i.count - 1 + 2)) ∥₁
+  room_pushed = subst (λ (ps : List WindowSet). ∥ Roomy ps ∥₁) (sym (stack_halves i.parts (i.count - 1) u half (omega (arith, i.busy on, i.long, room_left)))) room_halves

@@ -1,4 +1,4 @@
 pub mod Table
 pub mod Held
 pub mod Promises
-pub mod Moves
+pub mod Left

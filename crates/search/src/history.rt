@@ -10,7 +10,7 @@ use crate::search::Search;
 use rule::Rule;
 
 impl<R: Rule> Search<R> {
-    // Makes a call and lets its answer go.
+    // Makes a call and lets its answer go. It keeps the rule, as each of the calls promises.
     fn apply(&mut self, call: &Call)
         ensures same { self.new.rule ≡ self.old.rule }
         ensures goes { Goes (R.Rule.meaning self.old.rule) (call_of call.now) (state self.old.inner) (state self.new.inner) }

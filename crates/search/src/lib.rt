@@ -5,7 +5,7 @@ mod call;
 mod held;
 mod history;
 mod inner;
-mod request;
+mod left;
 mod search;
 
 pub use call::Call;

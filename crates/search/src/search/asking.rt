@@ -26,10 +26,7 @@ impl<R: Rule> Search<R> {
     pub fn held_charge(&self) -> Option<u64>
         ensures { result ≡ charge_held (state self.now.inner).plan }
     {
-        match self.inner.plan {
-            None => None,
-            Some(held) => Some(held.charge),
-        }
+        self.inner.plan.map(|held| held.charge)
     }
 
     // The cap standing; none while the search is idle.

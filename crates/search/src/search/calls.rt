@@ -4,13 +4,13 @@ ghost use Rattle.windows.specs.Refusals.{struck, Judged};
 ghost use Rattle.windows.specs.Filling.{set_of};
 ghost use Rattle.runs.specs.Run.{fresh, refusal, «open», step, tighten, read, step_answer};
 ghost use Rattle.runs.specs.Law.{Upheld};
-ghost use Rattle.search.specs.Held.{state};
+ghost use Rattle.search.specs.Held.{state, call_of};
 ghost use Rattle.search.specs.Promises.{checked, Goes, Answers, Reads};
 
+use crate::call::Call;
 use crate::inner::Inner;
-use crate::request::Request;
 use crate::search::Search;
-use rule::{MAX_CHARGE, Rule};
+use rule::{MAX_CHARGE, Rule, admit};
 use runs::{Phase, Step};
 use windows::{Refusal, Windows};
 
@@ -23,31 +23,21 @@ impl<R: Rule> Search<R> {
     {
         Search {
             rule,
-            inner: Inner {
-                phase: Phase::Idle,
-                cap: 0,
-                parts: [Windows::new(); 193],
-                count: 0,
-                plan: None,
-            },
+            inner: Inner::new(),
         }
     }
 
     // Whether a call is accepted, by the phase and the call together: the first check that strikes.
-    fn judge(&self, call: Request) -> Result<(), Refusal>
-        ensures { Judged (struck (checked (R.Rule.meaning self.now.rule) (state self.now.inner) call)) result }
+    fn judge(&self, call: &Call) -> Result<(), Refusal>
+        ensures { Judged (struck (checked (R.Rule.meaning self.now.rule) (state self.now.inner) (call_of call.now))) result }
     {
         match (self.inner.phase, call) {
-            (_, Request::Open(size, _)) if !self.rule.fits(size) => Err(Refusal::Unfit),
-            (_, Request::Open(_, limit)) if limit > MAX_CHARGE => Err(Refusal::CapTooHigh),
-            (_, Request::Open(_, _)) => Ok(()),
-            (_, Request::Tighten(limit)) if limit > MAX_CHARGE => Err(Refusal::CapTooHigh),
+            (_, Call::Open(windows, limit)) => admit(self.rule.fits(windows.size()), *limit),
+            (_, Call::Tighten(limit)) if *limit > MAX_CHARGE => Err(Refusal::CapTooHigh),
             (Phase::Idle, _) => Err(Refusal::Idle),
-            (Phase::Done, Request::Step) => Err(Refusal::Done),
-            (Phase::Running, Request::Step) => Ok(()),
-            (_, Request::Tighten(limit)) if limit >= self.inner.cap => Err(Refusal::CapNotLower),
-            (_, Request::Tighten(_)) => Ok(()),
-            (_, Request::Read) => Ok(()),
+            (Phase::Done, Call::Step) => Err(Refusal::Done),
+            (_, Call::Tighten(limit)) if *limit >= self.inner.cap => Err(Refusal::CapNotLower),
+            (_, Call::Step | Call::Tighten(_) | Call::Read(_)) => Ok(()),
         }
     }
 
@@ -57,10 +47,8 @@ impl<R: Rule> Search<R> {
         ensures goes { Goes (R.Rule.meaning self.old.rule) («open» (set_of windows.now) limit) (state self.old.inner) (state self.new.inner) }
         ensures answer { Answers (refusal (R.Rule.meaning self.old.rule) (state self.old.inner) («open» (set_of windows.now) limit)) (λ _. Unit {0}) (self.new ≡ self.old) result }
     {
-        if let Err(refusal) = self.judge(Request::Open(windows.size(), limit)) {
-            return Err(refusal);
-        }
-        self.start(windows, limit);
+        self.judge(&Call::Open(*windows, limit))?;
+        self.inner.start(windows, limit);
         Ok(())
     }
 
@@ -70,10 +58,8 @@ impl<R: Rule> Search<R> {
         ensures goes { Goes (R.Rule.meaning self.old.rule) step (state self.old.inner) (state self.new.inner) }
         ensures answer { Answers (refusal (R.Rule.meaning self.old.rule) (state self.old.inner) step) (λ k. k ≡ step_answer (R.Rule.meaning self.old.rule) (state self.old.inner) (state self.old.inner).parts) (self.new ≡ self.old) result }
     {
-        if let Err(refusal) = self.judge(Request::Step) {
-            return Err(refusal);
-        }
-        Ok(self.advance())
+        self.judge(&Call::Step)?;
+        Ok(self.inner.advance(&self.rule))
     }
 
     // Lowers the cap, and drops a held plan whose charge is above it.
@@ -82,27 +68,20 @@ impl<R: Rule> Search<R> {
         ensures goes { Goes (R.Rule.meaning self.old.rule) (tighten limit) (state self.old.inner) (state self.new.inner) }
         ensures answer { Answers (refusal (R.Rule.meaning self.old.rule) (state self.old.inner) (tighten limit)) (λ _. Unit {0}) (self.new ≡ self.old) result }
     {
-        if let Err(refusal) = self.judge(Request::Tighten(limit)) {
-            return Err(refusal);
-        }
-        self.lower(limit);
+        self.judge(&Call::Tighten(limit))?;
+        self.inner.lower(limit);
         Ok(())
     }
 
-    // Writes the plan held as one byte for each batch, and answers its charge and whether the search is done.
+    // Writes the plan held as one byte for each batch, and answers its charge and whether the search is done: two answers that a
+    // host asks for at once, of which neither says what the other is.
     pub fn read(&self, memory: &mut [u8]) -> Result<(u64, bool), Refusal>
         ensures goes { Goes (R.Rule.meaning self.now.rule) (read (length memory.old)) (state self.now.inner) (state self.now.inner) }
         ensures answer { Answers (refusal (R.Rule.meaning self.now.rule) (state self.now.inner) (read (length memory.old))) (Reads (state self.now.inner) memory.old memory.new (state self.now.inner).plan) (memory.new ≡ memory.old) result }
     {
-        if let Err(refusal) = self.judge(Request::Read) {
-            return Err(refusal);
-        }
-        let Some(held) = self.inner.plan else {
-            return Err(Refusal::NoPlan);
-        };
-        match held.windows.write_earliest(memory) {
-            Err(refusal) => Err(refusal),
-            Ok(()) => Ok((held.charge, self.is_done())),
-        }
+        self.judge(&Call::Read(memory.len()))?;
+        let held = self.inner.plan.ok_or(Refusal::NoPlan)?;
+        held.windows.write_earliest(memory)?;
+        Ok((held.charge, self.phase() == Phase::Done))
     }
 }

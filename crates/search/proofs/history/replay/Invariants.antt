@@ -1,8 +1,10 @@
-use Rattle.std.proofs.Common.{◌≡◌}
+use Rattle.std.proofs.Common.{◌≡◌, map, reverse, take}
 use Rattle.runs.specs.Run.{after}
-use Rattle.search.specs.Held.{state}
-use Rattle.search.proofs.Histories.{past}
+use Rattle.search.specs.Held.{state, call_of}
 use Rattle.search.proofs.history.replay.Given as goal
 
 abbrev pub invariant-loop-call : goal.invariant-loop-call
-invariant-loop-call g l = (l.search.rule ≡ l.initial.search.rule) × (state l.search.inner ≡ after (g.R.Rule.meaning l.initial.search.rule) (past l.calls l.call-index))
+invariant-loop-call g l = record {
+  same : l.search.rule ≡ l.fn.rule;
+  exact : state l.search.inner ≡ after (g.R.Rule.meaning l.fn.rule) (reverse (map call_of (take l.call-index l.calls)));
+}

@@ -1,17 +1,10 @@
-use Rattle.std.proofs.Common.{refl}
-use Rattle.runs.specs.Run.{tighten}
-use Rattle.search.specs.Held.{state}
-use Rattle.search.proofs.Goings.{refused, took}
+use Rattle.std.proofs.Common.{rules}
+use Rattle.search.specs.declared.call.Call.TheVariants.{Tighten}
+use Rattle.search.proofs.Goings.{goes}
 use Rattle.search.proofs.search.Search.tighten.Goals as goal
 
-pub returns-in-Err : goal.returns-in-Err
-returns-in-Err g c =
-    let s = c.args.self.now in
-    let n = c.in-Err.ensures in
-    record { same = refl; goes = refused (g.R.Rule.meaning s.rule) (g.met.R.Rule.lawful s.rule) (tighten c.args.limit) (λ cs given. given) (state s.inner) c.in-Err.refusal n; answer = (n, refl) }
+pub returns-in_err-judge-clause-goes : goal.returns-in_err-judge-clause-goes
+returns-in_err-judge-clause-goes g c = goes (g.met.R.Rule.lawful c.args.self.now.rule) (Tighten c.args.limit) (search rules)
 
-pub returns : goal.returns
-returns g c =
-    let s = c.args.self.now in
-    let n = c.in_default.ensures in
-    record { same = c.lower.ensures.same; goes = took (g.R.Rule.meaning s.rule) (g.met.R.Rule.lawful s.rule) (tighten c.args.limit) (λ cs given. given) (state s.inner) (state c.lower.new.self.inner) n c.lower.ensures.lowered; answer = (n, tt) }
+pub returns-clause-goes : goal.returns-clause-goes
+returns-clause-goes g c = goes (g.met.R.Rule.lawful c.args.self.now.rule) (Tighten c.args.limit) (search rules)
