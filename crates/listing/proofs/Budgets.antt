@@ -1,13 +1,14 @@
 -- Steps under a budget.
-use Rattle.std.proofs.Common.{◌≡◌, ℕ, zero, suc, ◌-◌, ◌<◌, true, false, refl, ap, ◌∙◌, arith}
+use Rattle.std.proofs.Common.{◌≡◌, ℕ, zero, suc, ◌+◌, ◌-◌, ◌<◌, true, false, refl, ap, ◌∙◌, arith}
 use Rattle.std.proofs.lemmas.Bool.{cond-true, cond-false}
 use Rattle.rule.specs.Meaning.{Meaning}
 use Rattle.runs.specs.Run.{State, step, is_done, next}
 use Rattle.listing.specs.Running.{steps_until_done}
 
-pub none_left : (m : Meaning) (s : State) → steps_until_done m 0 s ≡ s
+pub none_left : (m : Meaning) (k : ℕ) (s : State) → k ≡ 0 → steps_until_done m k s ≡ s
 unfolding steps_until_done
-none_left m s = refl
+none_left m zero s e = refl
+none_left m (suc k) s e = absurd (omega arith)
 
 pub at_end : (m : Meaning) (k : ℕ) (s : State) → is_done s.phase ≡ true → steps_until_done m k s ≡ s
 unfolding steps_until_done
@@ -18,5 +19,5 @@ pub one_more : (m : Meaning) (k : ℕ) (s : State) → is_done s.phase ≡ false
 unfolding steps_until_done
 one_more m k s e = cond-false (is_done s.phase) s _ e
 
-pub goes_on : (m : Meaning) (k : ℕ) (s : State) → 0 < k → is_done s.phase ≡ false → steps_until_done m k s ≡ steps_until_done m (k - 1) (next m s step)
-goes_on m k s h e = let q : k ≡ suc (k - 1) = omega arith in ap (λ (j : ℕ). steps_until_done m j s) q ∙ one_more m (k - 1) s e
+pub goes_on : (m : Meaning) (k i : ℕ) (s : State) → i < k → is_done s.phase ≡ false → steps_until_done m (k - i) s ≡ steps_until_done m (k - (i + 1)) (next m s step)
+goes_on m k i s h e = let q : k - i ≡ suc (k - (i + 1)) = omega arith in ap (λ (j : ℕ). steps_until_done m j s) q ∙ one_more m (k - (i + 1)) s e

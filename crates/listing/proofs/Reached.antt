@@ -4,7 +4,7 @@ use Rattle.std.proofs.lemmas.Bool.{cond-true, cases_Bool, both_ways, eq-eqb}
 use Rattle.windows.specs.WindowSets.{WindowSet, Proper}
 use Rattle.rule.specs.Meaning.{Meaning, Lawful}
 use Rattle.runs.specs.declared.phase.Phase.{Phase}
-use Rattle.runs.specs.declared.phase.Phase.TheVariants.{Idle, Running, Done}
+use Rattle.runs.specs.declared.phase.Phase.TheVariants.{Done}
 use Rattle.runs.specs.Run.{Call, «open», step, is_idle, is_done, refusal, accepted, after}
 use Rattle.runs.specs.Law.{Standing, standing, steps, opens, product, windows_of, NothingLost, BestAtEnd, Given}
 use Rattle.runs.proofs.Runs.{every_run}
@@ -12,19 +12,13 @@ use Rattle.listing.specs.Running.{steps_until_done, searched, Ended}
 use Rattle.listing.proofs.Budgets.{none_left, at_end, one_more}
 
 not_done : (p : Phase) → is_done p ≡ false → p ≢ Done
-not_done Idle e = λ q. (let z : ◌≡◌ {A = ℕ} 0 1 = cc in omega arith)
-not_done Running e = λ q. (let z : ◌≡◌ {A = ℕ} 0 1 = cc in omega arith)
-not_done Done e = λ q. (let z : ◌≡◌ {A = ℕ} 0 1 = cc in omega arith)
+not_done p e = λ q. both_ways (is_done p) e (ap is_done q)
 
-pub done_is : (p : Phase) → is_done p ≡ true → p ≡ Done
-done_is Idle e = let z : ◌≡◌ {A = ℕ} 0 1 = cc in absurd (omega arith)
-done_is Running e = let z : ◌≡◌ {A = ℕ} 0 1 = cc in absurd (omega arith)
-done_is Done e = refl
+done_is : (p : Phase) → is_done p ≡ true → p ≡ Done
+done_is p e = grind arith
 
 steps_awake : (p : Phase) → ◌≡◌ {A = ℕ} (cond (is_idle p) 10 (cond (is_done p) 11 0)) 0 → is_idle p ≡ false
-steps_awake Idle e = absurd (omega arith)
-steps_awake Running e = refl
-steps_awake Done e = refl
+steps_awake p e = grind arith
 
 -- The calls cs, and more steps after them: as many as were taken of k.
 record Reach (m : Meaning) (o : Standing) (k : ℕ) (cs : List Call) : Type 0 where
@@ -35,7 +29,7 @@ record Reach (m : Meaning) (o : Standing) (k : ℕ) (cs : List Call) : Type 0 wh
   all : is_done (after m calls).phase ≡ false → steps m calls ≡ k + steps m cs
 
 reach : (m : Meaning) → Lawful m → (o : Standing) (k : ℕ) (cs : List Call) → Given cs → standing m cs ≡ Some o → Reach m o k cs
-reach m law o zero cs g e = record { calls = cs; given = g; stands = e; is = none_left m (after m cs); all = λ _. omega arith }
+reach m law o zero cs g e = record { calls = cs; given = g; stands = e; is = none_left m zero (after m cs) refl; all = λ _. omega arith }
 reach m law o (suc k) cs g e =
     ⊎_elim
     (λ d. record { calls = cs; given = g; stands = e; is = at_end m (suc k) (after m cs) d; all = λ n. absurd (both_ways (is_done (after m cs).phase) n d) })

@@ -2,12 +2,13 @@
 use Rattle.std.proofs.Common.{◌≡◌, ℕ, ◌*◌, ◌<◌, ◌≤◌, Bool, true, false, cond, eqb, List, [], length, Some, None, Option, sym, refl, ap, ◌∙◌, subst, arith}
 use Rattle.std.proofs.lemmas.List.FromFn.{length-map-range_with_len}
 use Rattle.std.proofs.lemmas.Bool.{cond-true, cond-false, eq-eqb, ne_eqb, le-leb, and_from}
+use Rattle.std.proofs.lemmas.Option.{none-some}
 use Rattle.windows.specs.declared.refusal.Refusal.{Refusal}
-use Rattle.windows.specs.declared.refusal.Refusal.TheVariants.{SheetLength, Version, Limit, ListLength, Entry, BadWindow, Unfit, CapTooHigh, NoSchedule, Idle, Done, CapNotLower, NoPlan, ShortMemory}
 use Rattle.windows.specs.Refusals.{number}
 use Rattle.windows.specs.WindowSets.{WindowSet, Proper}
 use Rattle.windows.specs.Filling.{paired}
 use Rattle.windows.proofs.Fills.{length_paired}
+use Rattle.windows.proofs.Held.{numbered}
 use Rattle.rule.specs.Meaning.{Meaning, max_charge}
 use Rattle.flat.specs.Tests.{same_size}
 use Rattle.runs.specs.Run.{Plan, State, is_done}
@@ -21,25 +22,9 @@ use Rattle.listing.specs.Running.{searched, searched_text, Ended}
 use Rattle.listing.specs.Listing.{max_steps, sheet_standing, sheet_state, listing_text, Charged, Truthful, Told}
 use Rattle.listing.proofs.Readings.{opening, told}
 
-plain : (p : Plan) → None ≡ Some p → ⊥
-plain p e = let z : ◌≡◌ {A = ℕ} 0 1 = cc in omega arith
-
 -- The greatest number of a refusal.
-pub numbered_most : (e : Refusal) → number e ≤ 14
-numbered_most SheetLength = omega arith
-numbered_most Version = omega arith
-numbered_most Limit = omega arith
-numbered_most ListLength = omega arith
-numbered_most Entry = omega arith
-numbered_most BadWindow = omega arith
-numbered_most Unfit = omega arith
-numbered_most CapTooHigh = omega arith
-numbered_most NoSchedule = omega arith
-numbered_most Idle = omega arith
-numbered_most Done = omega arith
-numbered_most CapNotLower = omega arith
-numbered_most NoPlan = omega arith
-numbered_most ShortMemory = omega arith
+numbered_most : (e : Refusal) → number e ≤ 14
+numbered_most e = grind arith
 
 -- What is known of a search, once its opening is accepted.
 abbrev Ends : Meaning → WindowSet → ℕ → Type 0
@@ -52,10 +37,10 @@ HeldPlan b (Some p) = Contends (sheet_rule b) (sheet_standing b) p.schedule × C
 
 module _ (b : List ℕ) where
   -- A refused sheet.
-  pub refused_text_is : (k : ℕ) → 1 ≤ k → sheet_refusal b ≡ k → listing_text b ≡ refused_text k
+  refused_text_is : (k : ℕ) → 1 ≤ k → sheet_refusal b ≡ k → listing_text b ≡ refused_text k
   refused_text_is k h e = cond-false (eqb (sheet_refusal b) 0) _ _ (ne_eqb (sheet_refusal b) 0 (λ z. omega arith)) ∙ ap refused_text e
 
-  pub refused_truthful : (k : ℕ) → 1 ≤ k → k ≤ 14 → sheet_refusal b ≡ k → Truthful b (listing_text b)
+  refused_truthful : (k : ℕ) → 1 ≤ k → k ≤ 14 → sheet_refusal b ≡ k → Truthful b (listing_text b)
   refused_truthful k h l e =
       subst (Truthful b) (sym (refused_text_is k h e)) (record {
         best = λ p small q. absurd (one_reading.plan_not_refused p k (sym q));
@@ -64,6 +49,9 @@ module _ (b : List ℕ) where
         held = λ p small q. absurd (one_reading.refused_not_stopped k (plan_text p) q);
         refused = λ j i q. e ∙ one_reading.one_refusal k j l i q;
       })
+
+  pub refused_told : (e : Refusal) → sheet_refusal b ≡ number e → Told b (refused_text (number e))
+  refused_told e h = record { is = sym (refused_text_is (number e) (numbered e) h); truthful = refused_truthful (number e) (numbered e) (numbered_most e) h }
 
   -- An accepted one.
   pub accepted_text_is : sheet_refusal b ≡ 0 → listing_text b ≡ state_text (sheet_state b)
@@ -104,7 +92,7 @@ module _ (b : List ℕ) where
             best = λ p small q. absurd (one_reading.plan_not_stopped p [] (sym q));
             none = λ q. absurd (one_reading.none_not_stopped [] (sym q));
             stopped = λ rest q. (accepted, large);
-            held = λ p small q. absurd (plain p (stopped_text_one None (Some p) tt small q));
+            held = λ p small q. absurd (none-some p (stopped_text_one None (Some p) tt small q));
             refused = λ j i q. absurd (one_reading.refused_not_stopped j [] (sym q));
           }
       stopped_truthful (Some p) kept large =

@@ -1,10 +1,13 @@
 -- A search that is stepped until it is done, at most so often.
-use Rattle.std.specs.Prelude.{◌≡◌, ℕ, zero, suc, ◌*◌, ◌<◌, true, false, cond, List, length, Some, None, Option, ◌==◌}
+use Rattle.std.specs.Prelude.{◌≡◌, ℕ, zero, suc, ◌*◌, ◌<◌, true, false, cond, List, length, Some, Ok, Err, Option, Result, IfSome, ◌==◌}
+use Rattle.windows.specs.declared.refusal.Refusal.{Refusal}
+use Rattle.windows.specs.Refusals.{number}
 use Rattle.windows.specs.WindowSets.{WindowSet}
 use Rattle.rule.specs.Meaning.{Meaning}
 use Rattle.runs.specs.Run.{Plan, State, «open», step, fresh, is_idle, is_done, refusal, next}
 use Rattle.runs.specs.Law.{Standing, NothingLost, BestAtEnd, product}
-use Rattle.report.specs.Texts.{state_text, refused_text}
+use Rattle.report.specs.declared.outcome.Outcome.{Outcome}
+use Rattle.report.specs.Texts.{state_text, refused_text, outcome_text}
 
 -- At most k steps, and none once the search is done. It stays shut: open, a million of them would be computed.
 unfoldable pub steps_until_done : Meaning → ℕ → State → State
@@ -17,8 +20,12 @@ searched m w limit k = steps_until_done m k (next m fresh («open» w limit))
 
 -- A plan, if there is one, has a period for each of n batches.
 abbrev pub HasSize : ℕ → Option Plan → Type 0
-HasSize n None = Unit {0}
-HasSize n (Some p) = length p.schedule ≡ n
+HasSize n o = IfSome o (λ p. length p.schedule ≡ n)
+
+-- The text of what a search came to, or of its refusal.
+abbrev pub result_text : Result Outcome Refusal → List ℕ
+result_text (Ok o) = outcome_text o
+result_text (Err e) = refused_text (number e)
 
 -- What is told of a search with at most k steps: what it came to, or that its opening was refused.
 abbrev pub searched_text : Meaning → WindowSet → ℕ → ℕ → List ℕ

@@ -1,6 +1,7 @@
 // The one call from a sheet to its listing.
 ghost use Rattle.std.specs.Prelude.{◌≡◌, ◌≤◌, length};
-ghost use Rattle.report.specs.Texts.{Reported, outcome_text};
+ghost use Rattle.report.specs.Texts.{Reported};
+ghost use Rattle.listing.specs.Running.{result_text};
 ghost use Rattle.listing.specs.Listing.{listing_text, Truthful, Told};
 
 use crate::running::search_for;
@@ -8,21 +9,16 @@ use report::{Outcome, write_report};
 use sheet::{Job, load};
 use windows::Refusal;
 
-// What the search of a sheet comes to, or why the sheet is refused.
-fn outcome_of(sheet: &[u8]) -> Outcome
-    ensures { Told sheet.now (outcome_text result) }
+// What the search of a sheet comes to; refused if the sheet is.
+fn outcome_of(sheet: &[u8]) -> Result<Outcome, Refusal>
+    ensures { Told sheet.now (result_text result) }
 {
-    match load(sheet) {
-        Err(refusal) => Outcome::Refused(refusal),
-        Ok(job) => {
-            let Job {
-                windows,
-                rule,
-                limit,
-            } = job;
-            search_for(rule, &windows, limit)
-        }
-    }
+    let Job {
+        windows,
+        rule,
+        limit,
+    } = load(sheet)?;
+    search_for(rule, &windows, limit)
 }
 
 // Writes the listing of a sheet over the start of the host's memory, and answers its length. Refused by 14, with nothing
@@ -32,6 +28,6 @@ pub fn list(sheet: &[u8], memory: &mut [u8]) -> Result<usize, Refusal>
     ensures short { length (listing_text sheet.now) ≤ 320 }
     ensures truthful { Truthful sheet.now (listing_text sheet.now) }
 {
-    let outcome = outcome_of(sheet);
+    let outcome = outcome_of(sheet).unwrap_or_else(Outcome::Refused);
     write_report(&outcome, memory)
 }

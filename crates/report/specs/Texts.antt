@@ -1,5 +1,6 @@
 -- The texts that tell what a search came to, and what is left of a memory that a text is written into.
-use Rattle.std.specs.Prelude.{◌≡◌, ℕ, ◌+◌, ◌<◌, ◌≤◌, Bool, cond, List, [], ◌∷◌, ◌++◌, length, take, Some, None, Ok, Err, codes, decimal, Option, Result, ◌≢◌, nat_lt, slice_index}
+use Rattle.std.specs.Prelude.{◌≡◌, ℕ, ◌+◌, ◌<◌, ◌≤◌, Bool, cond, List, [], ◌∷◌, ◌++◌, length, take, Some, None, Ok, Err, codes, decimal, Option, Result, ◌≢◌, nat_lt, slice_index, IfSome}
+use Rattle.std.specs.Option.{option_map}
 use Rattle.windows.specs.declared.refusal.Refusal.{Refusal}
 use Rattle.windows.specs.Refusals.{number, struck}
 use Rattle.windows.specs.Halves.{over}
@@ -53,8 +54,7 @@ abbrev pub plan_of : PlanValue → Plan
 plan_of p = record { schedule = take p.count p.periods; charge = p.charge }
 
 abbrev pub plan_in : Option PlanValue → Option Plan
-plan_in None = None
-plan_in (Some p) = Some (plan_of p)
+plan_in o = option_map plan_of o
 
 -- The text of an outcome.
 abbrev pub outcome_text : Outcome → List ℕ
@@ -78,8 +78,7 @@ pub record Small (p : Plan) : Type 0 where
 
 -- The plan, if there is one, keeps its limits.
 abbrev pub SmallIfAny : Option Plan → Type 0
-SmallIfAny None = Unit {0}
-SmallIfAny (Some p) = Small p
+SmallIfAny o = IfSome o Small
 
 -- A text can be read in one way only.
 pub record OneReading : Type 0 where

@@ -2,7 +2,8 @@
 use Rattle.std.specs.List.{list_any}
 use Rattle.std.specs.Prelude.{ℕ, ◌+◌, ◌*◌, Bool, not, ◌||◌, List, [], ◌∷◌, ◌++◌, length, ◌==◌, nat_lt}
 use Rattle.windows.specs.Refusals.{struck}
-use Rattle.windows.specs.Filling.{out_of_size, some_bad}
+use Rattle.windows.specs.Filling.{some_bad}
+use Rattle.windows.specs.Sizes.{out_of_size}
 use Rattle.rule.specs.Meaning.{max_charge}
 use Rattle.rule.specs.Tables.{outside}
 use Rattle.rated.specs.Loading.{max_rate}

@@ -11,6 +11,8 @@ use Rattle.reload.specs.declared.reload.Reload.{Reload}
 use Rattle.reload.specs.Loading.{reload_of}
 use Rattle.layers.specs.Layers.{pair, weighted}
 use Rattle.sheet.specs.declared.head.Head.{Head}
+use Rattle.sheet.specs.declared.frame.tables.Field.{Field}
+use Rattle.sheet.specs.declared.frame.tables.Field.TheVariants.{Earliest, Latest, Due, Kind}
 use Rattle.sheet.specs.declared.section.Section.{Section}
 use Rattle.sheet.specs.declared.section.Section.TheVariants.{Capacities, Charges, Batches}
 use Rattle.sheet.specs.declared.section.Sheet.{Sheet}
@@ -25,6 +27,13 @@ pub record HeadIs (b : List ℕ) (h : Head) : Type 0 where
   pub weight : h.weight ≡ weight_told b
   pub kinds : h.kinds ≡ kind_count b
   pub limit : h.limit ≡ cap_told b
+
+-- The place of a byte in the six of its batch.
+abbrev pub place_of : Field → ℕ
+place_of Earliest = 0
+place_of Latest = 1
+place_of Due = 2
+place_of Kind = 3
 
 -- A section by its case: capacities are 1, charges 2, batches 3; where it begins in the sheet; and the bytes that it borrows.
 abbrev pub section_of : Section → ℕ × ℕ × List ℕ

@@ -2,13 +2,14 @@
 #![tactic(auto)]
 
 mod bytes;
+mod frame;
 mod head;
 mod job;
 mod loading;
 mod reading;
 mod section;
-mod tables;
 
+pub use bytes::number_at;
 pub use head::Head;
 pub use job::{Job, SheetRule};
 pub use loading::load;

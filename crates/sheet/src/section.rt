@@ -2,7 +2,7 @@
 use crate::head::Head;
 
 // A section borrows its part of the bytes, with the place where that begins, counted from 0 at the sheet's first byte.
-#[derive(Clone, Copy)]
+#[derive(Clone, Copy, Debug, PartialEq)]
 pub enum Section<'a> {
     Capacities { place: usize, bytes: &'a [u8] }, // a byte for each period
     Charges { place: usize, bytes: &'a [u8] }, // two bytes from each kind to each
@@ -10,7 +10,7 @@ pub enum Section<'a> {
 }
 
 // A sheet in its parts.
-#[derive(Clone, Copy)]
+#[derive(Clone, Copy, Debug, PartialEq)]
 pub struct Sheet<'a> {
     pub head: Head,
     pub capacities: Section<'a>,

@@ -1,10 +1,12 @@
 -- What the functions for other languages answer, and what they leave in the caller's memory.
-use Rattle.std.specs.Prelude.{◌≡◌, ℕ, ◌*◌, Bool, cond, not, ◌&&◌, ◌||◌, List, [], ◌∷◌, length, Some, None, Ok, Err, Option, Result, ◌==◌, nat_lt}
+use Rattle.std.specs.Prelude.{◌≡◌, ℕ, ◌*◌, Bool, cond, not, ◌&&◌, ◌||◌, List, [], ◌∷◌, length, map, Some, None, Ok, Err, Option, Result, ◌==◌, nat_lt}
 use Rattle.windows.specs.declared.refusal.Refusal.{Refusal}
 use Rattle.windows.specs.declared.window.Window.{Window}
+use Rattle.windows.specs.declared.windows.Windows.{Windows}
 use Rattle.windows.specs.Refusals.{number, struck}
 use Rattle.windows.specs.WindowSets.{WindowSet}
-use Rattle.windows.specs.Filling.{paired, out_of_size, some_bad}
+use Rattle.windows.specs.Filling.{set_of, paired, some_bad}
+use Rattle.windows.specs.Sizes.{out_of_size}
 use Rattle.windows.specs.Halves.{first_periods, over}
 use Rattle.rule.specs.Meaning.{Meaning, max_charge}
 use Rattle.rule.specs.Narrowing.{none}
@@ -24,12 +26,15 @@ abbrev pub windows_given : ℕ → List ℕ → List ℕ → WindowSet
 windows_given T es ls = record { periods = T; each = paired es ls }
 
 abbrev pub last_periods : List Window → List ℕ
-last_periods [] = []
-last_periods (w ∷ ws) = w.latest ∷ last_periods ws
+last_periods ws = map (λ w. w.latest) ws
 
 abbrev pub windows_left : Option WindowSet → List Window
 windows_left None = []
 windows_left (Some w) = w.each
+
+-- n and T, and the lengths of both tables.
+abbrev pub size_checks : ℕ → ℕ → List ℕ → List ℕ → List (ℕ × Bool)
+size_checks n T es ls = (3, out_of_size n T) ∷ ((4, not (length es == n && length ls == n)) ∷ [])
 
 -- The windows; the cap; and whether the cut is none.
 abbrev pub window_checks : Meaning → ℕ → List ℕ → List ℕ → ℕ → List (ℕ × Bool)
@@ -64,3 +69,8 @@ abbrev pub TablesAnswered : Meaning → ℕ → ℕ → List (ℕ × Bool) → L
 TablesAnswered m T limit checks es ls es' ls' (Ok u) =
     (struck checks ≡ 0) × (es' ≡ first_periods (windows_left (m.cut (windows_given T es ls) limit))) × (ls' ≡ last_periods (windows_left (m.cut (windows_given T es ls) limit)))
 TablesAnswered m T limit checks es ls es' ls' (Err e) = (struck checks ≡ number e) × (es' ≡ es) × (ls' ≡ ls)
+
+-- The windows of two tables after a narrowing: the cut, as many as were given, or the refusal.
+abbrev pub WindowsNarrowed : Meaning → ℕ → List ℕ → List ℕ → ℕ → List (ℕ × Bool) → Result Windows Refusal → Type 0
+WindowsNarrowed m T es ls limit checks (Ok w) = (struck checks ≡ 0) × (m.cut (windows_given T es ls) limit ≡ Some (set_of w)) × (length (set_of w).each ≡ length es)
+WindowsNarrowed m T es ls limit checks (Err e) = struck checks ≡ number e

@@ -1,9 +1,0 @@
-use Rattle.std.proofs.Common.{rules}
-use Rattle.std.proofs.lemmas.Slice.{overwrites}
-use Rattle.report.proofs.text.Text.push.Goals as goal
-
-pub invariant_of-self : goal.invariant_of-self
-invariant_of-self c = search (rules, overwrites)
-
-pub returns : goal.returns
-returns c = search (rules, overwrites)

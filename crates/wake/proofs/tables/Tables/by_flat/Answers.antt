@@ -1,0 +1,14 @@
+use Rattle.std.proofs.Common.{ap, ◌∙◌}
+use Rattle.wake.proofs.Narrows.{same_fits, flat_answered}
+use Rattle.wake.proofs.tables.Tables.by_flat.Goals as goal
+
+pub narrowed-requires : goal.narrowed-requires
+narrowed-requires c =
+    let s = c.args.self.now.size in
+    ap (λ m. m.fits s.batches s.periods) c.in_ok-fill.ensures.1 ∙ same_fits s.batches s.periods
+
+pub returns : goal.returns
+returns c =
+    let t = c.args.self.now in
+    let f = c.in_ok-fill.ensures in
+    flat_answered t.size.batches t.size.periods t.limit c.args.capacities.now c.args.dues.now t.earliest.now t.latest.now _ c.narrowed.result t.sized t.starts t.ends c.narrowed.ensures f.0 f.1
