@@ -4,32 +4,28 @@ use rule::Rule;
 use std::test::Fail;
 use windows::{Refusal, Size, Windows};
 
-// The number of a weight, or the number of the refusal with a hundred more.
-fn weighed(value: usize) -> u8 {
-    match Weight::new(value) {
-        Ok(weight) => weight.get(),
-        Err(refusal) => 100 + refusal.number(),
-    }
-}
-
 #[test]
 fn weights_are_1_to_100(rt: HostRuntime) {
-    assert!(rt; weighed(0) == 103 && weighed(1) == 1);
-    assert!(rt; weighed(100) == 100 && weighed(101) == 103);
+    assert_eq!(rt; Weight::new(0), Err(Refusal::Limit));
+    assert_eq!(rt; Weight::new(1).map(Weight::get), Ok(1));
+    assert_eq!(rt; Weight::new(100).map(Weight::get), Ok(100));
+    assert_eq!(rt; Weight::new(101), Err(Refusal::Limit));
+    assert_eq!(rt; Weight::try_from(100).map(u8::from), Ok(100));
+    assert_eq!(rt; Weight::try_from(101), Err(Refusal::Limit));
 }
 
 // Two batches over two periods of capacity one, both due in the second.
-fn waiting() -> Flat {
+fn waiting() -> Result<Flat, Refusal> {
     let mut flat = Flat::new();
-    let _ = flat.fill(Size::new(2, 2), &[1, 1], &[2, 2]);
-    flat
+    flat.fill(Size::new(2, 2), &[1, 1], &[2, 2])?;
+    Ok(flat)
 }
 
 #[test]
 fn a_weighted_cap_is_divided(rt: HostRuntime) -> Result<(), Fail> {
     let mut windows = Windows::new();
     windows.fill(Size::new(2, 2), &[1, 1], &[2, 2])?;
-    let rule = Weighted::new(Weight::new(3)?, waiting());
+    let rule = Weighted::new(Weight::new(3)?, waiting()?);
     assert_eq!(rt; rule.floor(&windows), 3);
     assert_eq!(rt; rule.narrow(&mut windows, 2), Err(Refusal::NoSchedule));
     assert_eq!(rt; rule.narrow(&mut windows, 3), Ok(()));
@@ -41,11 +37,11 @@ fn a_weighted_cap_is_divided(rt: HostRuntime) -> Result<(), Fail> {
 fn neither_side_of_a_pair_has_the_whole_cap(rt: HostRuntime) -> Result<(), Fail> {
     let mut windows = Windows::new();
     windows.fill(Size::new(2, 2), &[1, 1], &[2, 2])?;
-    let pair = Pair::new(waiting(), waiting());
+    let pair = Pair::new(waiting()?, waiting()?);
     assert_eq!(rt; pair.floor(&windows), 2);
     assert_eq!(rt; pair.narrow(&mut windows, 1), Err(Refusal::NoSchedule));
     assert_eq!(rt; pair.narrow(&mut windows, 2), Ok(()));
-    let apart = Pair::new(waiting(), Slots::new());
+    let apart = Pair::new(waiting()?, Slots::new());
     assert!(rt; !apart.fits(Size::new(2, 2)));
     assert_eq!(rt; apart.narrow(&mut windows, 2), Err(Refusal::Unfit));
     assert_eq!(rt; apart.floor(&windows), 1_000_000_000_000);

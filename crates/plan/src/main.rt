@@ -11,12 +11,10 @@ fn run(rt: &HostRuntime) -> anyhow::Result<()> {
     let mut sheet = Vec::new(rt.alloc());
     rt.stdin().take(MAX_INPUT).read_to_end(&mut sheet)?;
     let mut text = [0; 320];
+    // as in `sheets`: a crate for these lines would be no plainer
     match list(&sheet, &mut text) {
         Ok(length) => rt.stdout().write_all(&text[0..length])?,
-        Err(refusal) => {
-            let number = refusal.number();
-            eprintln!(rt; "refused {number}")?;
-        }
+        Err(refusal) => eprintln!(rt; "refused {refusal}")?,
     }
     Ok(())
 }

@@ -31,14 +31,17 @@ pub(crate) fn decode(heap: Global, text: &[u8]) -> Result<Option<Vec<u8>>, Alloc
     ensures { IfOk result (λ o. items_in o ≡ hex_bytes text.now) }
 {
     let mut bytes = Vec::new(heap);
-    if text.len() % 2 == 1 {
-        return Ok(None);
+    let mut rest = text;
+    while let [high, low, more @ ..] = rest {
+        // leaves with an answer, not an error
+        let Some(byte) = two_digits(*high, *low) else {
+            return Ok(None);
+        };
+        bytes.push(byte)?;
+        rest = more;
     }
-    for k in 0..text.len() / 2 {
-        match two_digits(text[2 * k], text[2 * k + 1]) {
-            Some(byte) => bytes.push(byte)?,
-            None => return Ok(None),
-        }
+    if !rest.is_empty() {
+        return Ok(None);
     }
     Ok(Some(bytes))
 }

@@ -13,12 +13,10 @@ fn answer(rt: &HostRuntime, line: &[u8]) -> anyhow::Result<()> {
         None => println!(rt; "not hexadecimal")?,
         Some(sheet) => {
             let mut text = [0; 320];
+            // as in `plan`: a crate for these lines would be no plainer
             match list(&sheet, &mut text) {
                 Ok(length) => rt.stdout().write_all(&text[0..length])?,
-                Err(refusal) => {
-                    let number = refusal.number();
-                    eprintln!(rt; "refused {number}")?;
-                }
+                Err(refusal) => eprintln!(rt; "refused {refusal}")?,
             }
         }
     }

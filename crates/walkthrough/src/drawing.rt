@@ -1,12 +1,12 @@
 // Windows as rows of periods.
 use std::io;
-use windows::Windows;
+use windows::{Window, Windows};
 
 // How a period of a window is drawn.
-fn mark(earliest: u8, latest: u8, period: u8) -> char {
-    if period < earliest || period > latest {
+fn mark(window: Window, period: u8) -> char {
+    if period < window.earliest || period > window.latest {
         '.'
-    } else if earliest == latest {
+    } else if window.earliest == window.latest {
         '*'
     } else {
         '#'
@@ -14,22 +14,20 @@ fn mark(earliest: u8, latest: u8, period: u8) -> char {
 }
 
 // Draws one batch's window over the periods.
-fn draw_row(rt: &HostRuntime, windows: &Windows, batch: usize) -> io::Result<()> {
-    let Some((earliest, latest)) = windows.window(batch) else {
-        return Ok(());
-    };
+fn draw_row(rt: &HostRuntime, periods: u8, batch: usize, window: Window) -> io::Result<()> {
     print!(rt; "  {batch:>2} ")?;
-    for period in 1..=windows.periods() as u8 {
-        let c = mark(earliest, latest, period);
+    for period in 1..=periods {
+        let c = mark(window, period);
         print!(rt; "{c}")?;
     }
+    let Window { earliest, latest } = window;
     println!(rt; " {earliest}-{latest}")
 }
 
 // Draws a set of windows, a batch to a row.
 pub(crate) fn draw(rt: &HostRuntime, windows: &Windows) -> io::Result<()> {
-    for batch in 1..=windows.batches() {
-        draw_row(rt, windows, batch)?;
+    for (k, &window) in windows.each().iter().enumerate() {
+        draw_row(rt, windows.periods() as u8, k + 1, window)?;
     }
     Ok(())
 }

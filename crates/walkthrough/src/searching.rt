@@ -3,17 +3,17 @@ use crate::drawing::draw;
 use crate::showing::report;
 use flat::Flat;
 use rule::Rule;
-use search::{Phase, Search, Step};
+use search::{Phase, Search};
 use std::io;
 use windows::{Size, Windows};
 
 // Prints the phase, the open parts and the charge held.
 fn look<R: Rule>(rt: &HostRuntime, search: &Search<R>) -> io::Result<()> {
-    let parts = search.open_parts();
-    match search.phase() {
-        Phase::Idle => print!(rt; "  idle")?,
-        Phase::Running => print!(rt; "  running, open parts {parts}")?,
-        Phase::Done => print!(rt; "  done")?,
+    let phase = search.phase();
+    print!(rt; "  {phase}")?;
+    if phase == Phase::Running {
+        let parts = search.open_parts();
+        print!(rt; ", open parts {parts}")?;
     }
     match search.held_charge() {
         Some(charge) => println!(rt; ", plan held at {charge}"),
@@ -24,9 +24,7 @@ fn look<R: Rule>(rt: &HostRuntime, search: &Search<R>) -> io::Result<()> {
 // Makes a step and prints what became of the newest part.
 fn advance<R: Rule>(rt: &HostRuntime, search: &mut Search<R>) -> io::Result<()> {
     match search.step() {
-        Ok(Step::Closed) => println!(rt; "step: closed")?,
-        Ok(Step::Plan) => println!(rt; "step: plan")?,
-        Ok(Step::Split) => println!(rt; "step: split")?,
+        Ok(step) => println!(rt; "step: {step}")?,
         Err(refusal) => report(rt, "step", Err(refusal))?,
     }
     look(rt, search)

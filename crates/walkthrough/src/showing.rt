@@ -8,10 +8,7 @@ use windows::{Refusal, Windows};
 pub(crate) fn report(rt: &HostRuntime, asked: &str, answer: Result<(), Refusal>) -> io::Result<()> {
     match answer {
         Ok(()) => println!(rt; "{asked}: accepted"),
-        Err(refusal) => {
-            let number = refusal.number();
-            println!(rt; "{asked}: refused by {number}")
-        }
+        Err(refusal) => println!(rt; "{asked}: refused by {refusal}"),
     }
 }
 
