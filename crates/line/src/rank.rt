@@ -6,33 +6,29 @@ ghost use Rattle.line.specs.declared.batch.Batch.{Batch};
 use crate::batch::Batch;
 
 // A key that every batch has. Of two batches the one with the greater key is ahead.
-pub trait Rank {
-    type Key: Copy + Ord;
-
+pub trait Rank<K: Copy + Ord> {
     // the key of a batch
-    ghost key: { Batch → Self.Key };
+    ghost key: { Batch → K };
 
     // a key as a number
-    ghost value: { Self.Key → ℕ };
+    ghost value: { K → ℕ };
 
     // The key of a batch.
-    fn key(batch: Batch) -> Self::Key
+    fn key(batch: Batch) -> K
         ensures { result ≡ key batch };
 
     // keys are in the order of their numbers
-    ghost ordered: { (a b : Self.Key) → Self.Key.cmp a b ≡ nat_cmp (value a) (value b) };
+    ghost ordered: { (a b : K) → K.cmp a b ≡ nat_cmp (value a) (value b) };
 
     // two keys of one number are the same
-    ghost exact: { (a b : Self.Key) → value a ≡ value b → a ≡ b };
+    ghost exact: { (a b : K) → value a ≡ value b → a ≡ b };
 }
 
 // By the earliest period: the batches that have to go late are ahead.
 #[derive(Clone, Copy, Debug)]
 pub struct Earliest;
 
-impl Rank for Earliest {
-    type Key = u8;
-
+impl Rank<u8> for Earliest {
     ghost key = { λ b. b.earliest };
 
     ghost value = { λ k. k };
@@ -50,9 +46,7 @@ impl Rank for Earliest {
 #[derive(Clone, Copy, Debug)]
 pub struct Rate;
 
-impl Rank for Rate {
-    type Key = u32;
-
+impl Rank<u32> for Rate {
     ghost key = { λ b. b.rate };
 
     ghost value = { λ k. k };

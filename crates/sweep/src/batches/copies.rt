@@ -30,9 +30,19 @@ impl Batches {
     pub(super) fn relaxed(&self) -> Batches
         ensures { (listed result ≡ relaxed_of (listed self.now)) × (last_of result ≡ last_of self.now) }
     {
-        let mut open = *self;
-        open.each = self.each.map(|old| Batch { earliest: 1, ..old });
-        open
+        let mut each = self.each;
+        // by index: a map of the array would go through all of its places
+        for (k, old) in self.each().iter().enumerate() {
+            each[k] = Batch {
+                earliest: 1,
+                ..*old
+            };
+        }
+        Batches {
+            count: self.count,
+            last: self.last,
+            each,
+        }
     }
 
     // The batches without one of them, counted from 0; all of them if there is no such batch.

@@ -1,24 +1,26 @@
-use Rattle.std.proofs.Common.{◌≡◌, take, sym, refl, ap, ◌∙◌, subst, arith, rules}
-use Rattle.std.proofs.lemmas.List.{take-map}
-use Rattle.sweep.specs.Charges.{no_batch, opened, relaxed, Sound}
-use Rattle.sweep.proofs.Opened.{opened_table, opened_sound}
+use Rattle.std.proofs.Common.{ℕ, ◌≡◌, ◌<◌, length, take, refl, ap, ◌∙◌, subst, arith}
+use Rattle.sweep.specs.Charges.{at, opened, relaxed, Sound}
+use Rattle.sweep.specs.Held.{listed}
+use Rattle.sweep.proofs.Sounds.{length_listed, listed_sound}
+use Rattle.sweep.proofs.Opened.{opened_front, opened_sound}
 use Rattle.sweep.proofs.batches.Batches.relaxed.Goals as goal
-use Rattle.sweep.proofs.batches.Batches.relaxed.Goals.{After-map-open}
+use Rattle.sweep.proofs.batches.Batches.relaxed.Goals.{After-loop-k}
 
-table : (c : After-map-open) → c.map-open.result ≡ relaxed c.args.self.now.each
-table c =
+each_opened : (c : After-loop-k) → (k : ℕ) → k < length (listed c.args.self.now) → at c.loop-k.each k ≡ opened (at (listed c.args.self.now) k)
+each_opened c k h =
+    let e = c.each-old-items.ensures.all in
+    c.loop-k.invariant.1 k (omega (arith, ap length e)) ∙ ap (λ bs. opened (at bs k)) e
+
+pub invariant_of-result : goal.invariant_of-result
+invariant_of-result c =
     let b = c.args.self.now in
-    let all = c.map-open.ensures.items in
-    opened_table b.each c.map-open.result (all.long ∙ sym b.long) (λ k h. let call = all.at k no_batch no_batch (omega (arith, b.long)) in search (rules, call.2))
-
-pub invariant_of-open : goal.invariant_of-open
-invariant_of-open c =
-    let b = c.args.self.now in record {
-      long = c.map-open.ensures.items.long;
-      sound = subst (Sound b.count b.last) (sym (table c)) (opened_sound b.count b.last b.each (omega (arith, b.long, b.sound.few)) b.sound);
+    let a = (goal.at.invariant_of-result c).After-loop-k in record {
+      long = c.loop-k.invariant.0;
+      sound = subst (λ n. Sound n b.last c.loop-k.each) (length_listed b) (opened_sound (length (listed b)) b.last (listed b) c.loop-k.each (each_opened a) (listed_sound b));
     }
 
 pub returns : goal.returns
 returns c =
     let b = c.args.self.now in
-    (ap (take b.count) (table (goal.at.returns c).After-map-open) ∙ take-map opened b.count b.each, refl)
+    let a = (goal.at.returns c).After-loop-k in
+    (subst (λ n. take n c.loop-k.each ≡ relaxed (listed b)) (length_listed b) (opened_front (listed b) c.loop-k.each (omega (arith, length_listed b, b.sound.few, c.loop-k.invariant.0)) (each_opened a)), refl)
