@@ -31,6 +31,10 @@ pub(crate) fn decode(heap: Global, text: &[u8]) -> Result<Option<Vec<u8>>, Alloc
     ensures { IfOk result (λ o. items_in o ≡ hex_bytes text.now) }
 {
     let mut bytes = Vec::new(heap);
+    // first: nothing is decoded of a line that has half a byte
+    if text.len() % 2 == 1 {
+        return Ok(None);
+    }
     let mut rest = text;
     while let [high, low, more @ ..] = rest {
         // leaves with an answer, not an error
@@ -39,9 +43,6 @@ pub(crate) fn decode(heap: Global, text: &[u8]) -> Result<Option<Vec<u8>>, Alloc
         };
         bytes.push(byte)?;
         rest = more;
-    }
-    if !rest.is_empty() {
-        return Ok(None);
     }
     Ok(Some(bytes))
 }
