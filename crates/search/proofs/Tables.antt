@@ -42,10 +42,10 @@ pub room_one : (w : Windows) → ∥ Roomy (set_of w ∷ []) ∥₁
 room_one w = let p = held_proper w in ∣ ((6 * length (set_of w).each, omega (arith, p.few), sized_proper (set_of w) p), tt) ∣₁
 
 -- The newest part goes, whatever is written in its place.
-pub room_below : (table : List Windows) (n : ℕ) (v : Windows) → 0 < n → n ≤ length table → ∥ Roomy (stack table n) ∥₁ → ∥ Roomy (stack (set table (n - 1) v) (n - 1)) ∥₁
-room_below table n v some h room =
+pub room_below : (table : List Windows) (n m : ℕ) (v : Windows) → m ≡ n - 1 → 0 < n → n ≤ length table → ∥ Roomy (stack table n) ∥₁ → ∥ Roomy (stack (set table (n - 1) v) m) ∥₁
+room_below table n m v is some h room =
     let P : List WindowSet → Type 0 = Roomy in
-    ∥∥₁_map room (λ r. subst P (sym (stack_above table (n - 1) (n - 1) v (omega arith))) (subst P (stack_top table n v some h) r).1)
+    rw is (∥∥₁_map room (λ r. subst P (sym (stack_above table (n - 1) (n - 1) v (omega arith))) (subst P (stack_top table n v some h) r).1))
 
 roomy_halves : (p v : WindowSet) (ps : List WindowSet) → Inside v.each p.each → Nonempty v.each → one_each v ≡ false → Roomy (p ∷ ps) → Roomy (later v ∷ (earlier v ∷ ps))
 roomy_halves p v ps i h b r =

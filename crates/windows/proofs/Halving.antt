@@ -84,5 +84,9 @@ write_next x before now' k v h l e i =
     ∙ sym (append_assoc (take k x) (get_or x k 0 ∷ []) (drop (k + 1) before))
     ∙ ap (λ (s : List ℕ). s ++ drop (k + 1) before) (sym (take_more x k 0 h))
 
+-- The earliest period of one window more, written after those before it.
+pub write_window : (ws : List Window) (before now' : List ℕ) (k : ℕ) → k < length ws → length ws ≤ length before → now' ≡ take k (first_periods ws) ++ drop k before → set now' k (earliest_of ws k) ≡ take (k + 1) (first_periods ws) ++ drop (k + 1) before
+write_window ws before now' k h l i = write_next (first_periods ws) before now' k (earliest_of ws k) (omega (arith, length_periods ws)) (omega (arith, length_periods ws)) (sym (periods_at ws k)) i
+
 pub write_all : (x before now' : List ℕ) (k : ℕ) → k ≡ length x → now' ≡ take k x ++ drop k before → now' ≡ over x before
 write_all x before now' k e i = i ∙ ap (λ (j : ℕ). take j x ++ drop j before) e ∙ ap (λ (s : List ℕ). s ++ drop (length x) before) (take_all (length x) x (omega arith))

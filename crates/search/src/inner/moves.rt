@@ -25,6 +25,7 @@ fn phase_of(parts: usize) -> Phase
 
 impl Inner {
     // Idle, with no part and no plan.
+    #[inline(always)] // the table is made where it stays
     pub(crate) fn new() -> Inner
         ensures { state result ≡ fresh }
     {
@@ -53,7 +54,7 @@ impl Inner {
         ensures { state self.new ≡ record (state self.old) { cap = limit; plan = within_cap limit (state self.old).plan } }
     {
         self.cap = limit;
-        self.plan = self.plan.filter(|held| held.charge <= limit);
+        self.plan.take_if(|held| held.charge > limit);
     }
 
     // The limit of a step: the cap, or one less than the charge held. There is none below a charge of 0.
@@ -61,6 +62,7 @@ impl Inner {
         ensures { result ≡ limit_of self.now.cap (plan_of self.now.plan) }
     {
         self.plan
+            .as_ref()
             .map_or(Some(self.cap), |held| held.charge.checked_sub(1))
     }
 

@@ -80,7 +80,7 @@ impl<R: Rule> Search<R> {
         ensures answer { Answers (refusal (R.Rule.meaning self.now.rule) (state self.now.inner) (read (length memory.old))) (Reads (state self.now.inner) memory.old memory.new (state self.now.inner).plan) (memory.new ≡ memory.old) result }
     {
         self.judge(&Call::Read(memory.len()))?;
-        let held = self.inner.plan.ok_or(Refusal::NoPlan)?;
+        let held = self.inner.plan.as_ref().ok_or(Refusal::NoPlan)?;
         held.windows.write_earliest(memory)?;
         Ok((held.charge, self.phase() == Phase::Done))
     }

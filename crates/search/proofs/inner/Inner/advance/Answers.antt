@@ -4,10 +4,10 @@ use Rattle.search.proofs.Tables.{room_below, room_left, room_pushed}
 use Rattle.search.proofs.inner.Inner.advance.Goals as goal
 
 pub invariant_of-self-clause-room : goal.invariant_of-self-clause-room
-invariant_of-self-clause-room g c = let s = c.args.self.now in room_below s.parts s.count c.left_of.new.part (s.busy c.requires) (omega (arith, s.long, s.few)) s.room
+invariant_of-self-clause-room g c = let s = c.args.self.now in room_below s.parts s.count _ c.left_of.new.part (omega arith) (s.busy c.requires) (omega (arith, s.long, s.few)) s.room
 
 pub invariant_of-self-in-Some-Plan-clause-room : goal.invariant_of-self-in-Some-Plan-clause-room
-invariant_of-self-in-Some-Plan-clause-room g c = let s = c.args.self.now in room_below s.parts s.count c.left_of.new.part (s.busy c.requires) (omega (arith, s.long, s.few)) s.room
+invariant_of-self-in-Some-Plan-clause-room g c = let s = c.args.self.now in room_below s.parts s.count _ c.left_of.new.part (omega arith) (s.busy c.requires) (omega (arith, s.long, s.few)) s.room
 
 pub listed-in-Some-Halves : goal.listed-in-Some-Halves
 listed-in-Some-Halves g c =
