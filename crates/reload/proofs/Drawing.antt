@@ -55,14 +55,14 @@ module _ (r : Reload) (x : List ℕ) (size : length x ≡ r.extent.batches) wher
         total_fits = omega (arith, draws_more, charge_bound (K r) (q r) (charges_low r) r.extent.periods (ks r) x r.extent.most (omega (arith, r.extent.few)))
 
 -- A turn of a loop over windows and the kinds of their batches, which has yielded some pairs, and now p.
-module _ (r : Reload) (each : List Window) (yielded : List (Bor Window × Bor ℕ)) (s t u : Zip (Iter Window) (Iter ℕ)) (o : Option (Bor Window × Bor ℕ)) (windows : iter_rest (zip_first s) ≡ each) (kinds : iter_rest (zip_second s) ≡ r.kinds) (so_far : Yields (zips fronts fronts) s yielded t)
+module _ (r : Reload) (each : List Window) (yielded : List (Bor Window × Bor ℕ)) (s t u : Zip (Iter Window) (Iter ℕ)) (o : Option (Bor Window × Bor ℕ)) (windows : iter_rest (zip_first s) ≡ each) (kinds : iter_rest (zip_second s) ≡ ks r) (so_far : Yields (zips fronts fronts) s yielded t)
     (p : Bor Window × Bor ℕ) (is : o ≡ Some p) (step : zips fronts fronts t o u) where
   abbrev x : List ℕ
   x = places_of each
 
   -- The pair is that of the next batch.
-  next : (length yielded < length each) × (length yielded < length r.kinds) × ((d : Window) → p.0.now ≡ get_or each (length yielded) d) × ((d : ℕ) → p.1.now ≡ get_or r.kinds (length yielded) d)
-  next = zip_turn each r.kinds yielded s t u o windows kinds so_far p is step
+  next : (length yielded < length each) × (length yielded < length (ks r)) × ((d : Window) → p.0.now ≡ get_or each (length yielded) d) × ((d : ℕ) → p.1.now ≡ get_or (ks r) (length yielded) d)
+  next = zip_turn each (ks r) yielded s t u o windows kinds so_far p is step
 
   here : length yielded < length x
   here = omega (arith, next.0, length-map each (λ w. w.earliest))
@@ -74,6 +74,9 @@ module _ (r : Reload) (each : List Window) (yielded : List (Bor Window × Bor �
     sized : length x ≡ r.extent.batches
     sized = length-map each (λ w. w.earliest) ∙ size
 
+    kind_next : p.1.now ≡ get_or r.kinds (length yielded) 0
+    kind_next = next.3 0 ∙ get_or-take r.extent.batches r.kinds (length yielded) 0 (omega (arith, here, sized))
+
     after_next : (all : ℕ) (last : Option ℕ) → Draws r x (kinds_from r.extent.periods (ks r) x period (length yielded + 1)) all last → Draws r x (kinds_from r.extent.periods (ks r) x period (length (yielded ++ p ∷ []))) all last
     after_next all last = subst (λ (k : ℕ). Draws r x (kinds_from r.extent.periods (ks r) x period k) all last) (sym (length_push yielded p))
 
@@ -82,7 +85,7 @@ module _ (r : Reload) (each : List Window) (yielded : List (Bor Window × Bor �
 
     module _ (in_period : p.0.now.earliest ≡ period) (more : ℕ) (drew : more ≡ drawn (K r) (q r) before p.1.now) where
       pub turn_draws : Draws r x (kinds_from r.extent.periods (ks r) x period (length (yielded ++ p ∷ []))) (total + more) (Some p.1.now)
-      turn_draws = after_next (total + more) (Some p.1.now) (draws_more r x sized period total before (length yielded) here d (place ∙ in_period) p.1.now (next.3 0) more drew)
+      turn_draws = after_next (total + more) (Some p.1.now) (draws_more r x sized period total before (length yielded) here d (place ∙ in_period) p.1.now kind_next more drew)
 
       pub turn_fits : total + more ≤ 20480000
-      turn_fits = total_fits r x sized period total before (length yielded) here d (place ∙ in_period) p.1.now (next.3 0) more drew
+      turn_fits = total_fits r x sized period total before (length yielded) here d (place ∙ in_period) p.1.now kind_next more drew

@@ -25,5 +25,8 @@ fn batches_in(each: &[Window], t: u8) -> usize
 pub(crate) fn apart(each: &[Window], periods: u8) -> bool
     ensures { result ≡ within (replicate periods 1) 1 (places_of each.now) }
 {
-    !(1..=periods).any(|t| batches_in(each, t) > 1)
+    // a shared period is that of some batch
+    !each.iter().any(|window| {
+        (1..=periods).contains(&window.earliest) && batches_in(each, window.earliest) > 1
+    })
 }

@@ -1,11 +1,22 @@
--- Tables made by a closure, an entry for each index.
-use Rattle.std.proofs.Common.{◌≡◌, ℕ, zero, suc, ◌+◌, ◌<◌, ◌≤◌, List, map, get_or, take, refl, ◌∙◌, subst, arith}
+-- Tables that begin with a list made from its indices: by a closure, or entry by entry.
+use Rattle.std.proofs.Common.{◌≡◌, ℕ, zero, suc, ◌+◌, ◌<◌, ◌≤◌, List, map, length, get_or, take, set, refl, ap, ◌∙◌, subst, arith, length-set}
 use denote.Param.Members.{Mut}
 use Rattle.std.specs.Fn.{Called}
 use Rattle.std.specs.Array.{IsFromFnResult, IsFromFnResultFrom}
 use Rattle.std.specs.List.{range_with_len}
 use Rattle.std.proofs.lemmas.List.FromFn.{fill_by_all}
+use Rattle.std.proofs.lemmas.List.Edits.{fill_by_more}
 use Rattle.std.proofs.lemmas.List.{length-take-le, get_or-take}
+
+pub front_is : (f : ℕ → ℕ) (n j : ℕ) (table : List ℕ) → n ≡ j → n ≤ length table → ((k : ℕ) → k < n → get_or table k 0 ≡ f k) → take n table ≡ map f (range_with_len 0 j)
+front_is f n j table e long h = fill_by_all f (take n table) j 0 (length-take-le n table long ∙ e) (λ k b. get_or-take n table k 0 (omega arith) ∙ h k (omega arith))
+
+-- One entry more of a table of n.
+pub entry_more : (f : ℕ → ℕ) (n i v : ℕ) (table : List ℕ) → i < n → v ≡ f i → (length table ≡ n) × ((k : ℕ) → k < i → get_or table k 0 ≡ f k) → (length (set table i v) ≡ n) × ((k : ℕ) → k < i + 1 → get_or (set table i v) k 0 ≡ f k)
+entry_more f n i v table h e inv = (
+  simp length-set inv.0,
+  (λ k b. ap (λ (u : ℕ). get_or (set table i u) k 0) e ∙ fill_by_more f table i 0 (omega (arith, inv.0)) inv.1 k b),
+)
 
 -- Each call answers what the list has at that index, and changes nothing.
 module _ {F : Type 0} (g : Mut F (ℕ × Unit {0}) ℕ) (entry : ℕ → ℕ) (f : F) (one : (i y : ℕ) (q : F) → Called g f (i, tt) y q → (y ≡ entry i) × (q ≡ f)) (table : List ℕ) where

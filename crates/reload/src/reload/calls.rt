@@ -95,9 +95,10 @@ impl Reload {
     {
         let mut total = 0;
         let mut before = None;
+        let kinds = &self.kinds[..each.len()];
         // in order of period: a batch's period is found, and nothing is indexed by it
         for t in 1..=self.extent.periods {
-            for (window, &kind) in each.iter().zip(&self.kinds) {
+            for (window, &kind) in each.iter().zip(kinds) {
                 if window.earliest == t {
                     total += self.load(before, kind);
                     before = Some(kind);

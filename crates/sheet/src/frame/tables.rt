@@ -5,7 +5,6 @@ ghost use Rattle.sheet.specs.Reading.{place_of};
 
 use crate::bytes::{byte, number_at};
 use crate::frame::Frame;
-use std::array;
 
 // What a byte of a batch says, by its place in the six.
 #[derive(Clone, Copy)]
@@ -17,7 +16,7 @@ pub(super) enum Field {
 }
 
 impl Frame<'_> {
-    // Each table is a line over one reader of bytes: its type, its place and its definition are its own.
+    // Each table is a loop over one reader of bytes: its type, its place and its definition are its own. Only what counts is read.
 
     // One byte of each batch.
     pub(super) fn column(&self, field: Field) -> [u8; 32]
@@ -25,7 +24,11 @@ impl Frame<'_> {
     {
         let batches = self.batches();
         let place = field as usize;
-        array::from_fn(|k| byte(batches, 6 * k + place))
+        let mut table = [0; 32];
+        for k in 0..self.head.batches as usize {
+            table[k] = byte(batches, 6 * k + place);
+        }
+        table
     }
 
     // The rate of each batch.
@@ -33,7 +36,11 @@ impl Frame<'_> {
         ensures { take self.now.head.batches result ≡ rates self.now.bytes.now }
     {
         let batches = self.batches();
-        array::from_fn(|k| number_at(batches, 6 * k + 4) as u32)
+        let mut table = [0; 32];
+        for k in 0..self.head.batches as usize {
+            table[k] = number_at(batches, 6 * k + 4) as u32;
+        }
+        table
     }
 
     // The charges from kind to kind, row by row.
@@ -41,6 +48,10 @@ impl Frame<'_> {
         ensures { take (self.now.head.kinds * self.now.head.kinds) result ≡ reload_charges self.now.bytes.now }
     {
         let charges = self.charges();
-        array::from_fn(|k| number_at(charges, 2 * k))
+        let mut table = [0; 64];
+        for k in 0..self.head.charge_count() {
+            table[k] = number_at(charges, 2 * k);
+        }
+        table
     }
 }

@@ -1,11 +1,11 @@
-use Rattle.std.proofs.Common.{not, ltb, rules, arith, sym, ap, ◌∙◌}
-use Rattle.windows.specs.Schedules.{count}
-use Rattle.reload.specs.Rules.{places_of}
-use Rattle.reload.proofs.Counting.{any_up, uncrowded}
+use Rattle.std.proofs.Common.{not, rules, tests, ap, ◌∙◌}
+use Rattle.std.proofs.lemmas.Iterator.{YieldsList-from_slice}
+use Rattle.std.proofs.lemmas.Iterator.Search.{any_from_yields_List}
+use Rattle.reload.proofs.Counting.{crowds, own_periods}
 use Rattle.reload.proofs.schedule.apart.Goals as goal
 
 pub returns : goal.returns
 returns c =
     let T = c.args.periods in
-    let x = places_of c.args.each.now in
-    ap not (any_up (λ t. ltb 1 (count t x)) (λ v b k e. search rules) c.new.result 1 T c.new.ensures.exhausted c.new.ensures.start (omega (arith, c.new.ensures.end)) c.any.result c.any.ensures.runs) ∙ sym (uncrowded T 1 x)
+    let each = c.args.each.now in
+    ap not (any_from_yields_List (crowds T each) _ _ c.any.result c.any.ensures.ran (YieldsList-from_slice each (cc)) (λ x b q k. search (rules, tests))) ∙ own_periods T each
