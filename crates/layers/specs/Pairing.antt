@@ -55,16 +55,25 @@ turned a b limit x w s = record { proper = s.proper; lies = s.lies; left = s.rig
 less_some : (m : Meaning) (limit floor : ℕ) (w v : WindowSet) → less m limit floor w ≡ Some v → (floor ≤ limit) × (m.cut w (limit - floor) ≡ Some v)
 less_some m limit floor w v e = grind (arith, nat_tests)
 
--- One side beside the other.
-module _ (a b : Meaning) (la : Lawful a) (lb : Lawful b) (limit : ℕ) (capped : limit ≤ max_charge) where
-  beside_within : (w v : WindowSet) → Proper w → beside a b limit w ≡ Some v → Within w v
-  beside_within w v p e =
-      let r = la.cut_inside w v (limit - b.floor w) p (omega arith) (less_some a limit (b.floor w) w v e).1 in
+-- One side, under the cap less some floor of the other.
+module _ (a : Meaning) (la : Lawful a) (limit : ℕ) (capped : limit ≤ max_charge) (floor : ℕ) where
+  less_within : (w v : WindowSet) → Proper w → less a limit floor w ≡ Some v → Within w v
+  less_within w v p e =
+      let r = la.cut_inside w v (limit - floor) p (omega arith) (less_some a limit floor w v e).1 in
       record { same_periods = r.0; inside = r.1; proper = r.2 }
 
   -- What fits the windows before fits those after.
+  pub fit_less : (m : Meaning) (w v : WindowSet) → Proper w → Some v ≡ less a limit floor w → fitting m w ≡ true → fitting m v ≡ true
+  fit_less m w v p e t = fit_within m w v (less_within w v p (sym e)) t
+
+-- One side beside the other.
+module _ (a b : Meaning) (la : Lawful a) (lb : Lawful b) (limit : ℕ) (capped : limit ≤ max_charge) where
+  beside_within : (w v : WindowSet) → Proper w → beside a b limit w ≡ Some v → Within w v
+  beside_within w v p e = less_within a la limit capped (b.floor w) w v p e
+
+  -- What fits the windows before fits those after.
   pub fit_beside : (m : Meaning) (w v : WindowSet) → Proper w → Some v ≡ beside a b limit w → fitting m w ≡ true → fitting m v ≡ true
-  fit_beside m w v p e t = fit_within m w v (beside_within w v p (sym e)) t
+  fit_beside m w v p e t = fit_less a la limit capped (b.floor w) m w v p e t
 
   beside_still : (x : List ℕ) → Keeps (Still a b limit x) (beside a b limit)
   beside_still x w v s e =

@@ -4,7 +4,7 @@ ghost use Rattle.std.specs.Option.{option_map};
 ghost use Rattle.windows.specs.Filling.{set_of};
 ghost use Rattle.rule.specs.Meaning.{max_charge};
 ghost use Rattle.rule.specs.Narrowing.{fitting};
-ghost use Rattle.layers.specs.Layers.{slack as slack_of, beside, round as round_of, pair as pair_of};
+ghost use Rattle.layers.specs.Layers.{slack as slack_of, less, round as round_of, pair as pair_of};
 
 use rule::Rule;
 use windows::{Window, Windows};
@@ -33,12 +33,12 @@ pub(crate) struct Narrowing<'a, L: Rule, R: Rule> {
 }
 
 impl<'a, L: Rule, R: Rule> Narrowing<'a, L, R> {
-    // Narrows by the left side, under the cap less the right side's floor, and turns the sides.
-    fn turn(&self) -> Option<Narrowing<'a, R, L>>
-        ensures windows { option_map (λ n. set_of n.windows) result ≡ beside (L.Rule.meaning self.now.left.now) (R.Rule.meaning self.now.right.now) self.now.limit (set_of self.now.windows) }
+    // Narrows by the left side, under the cap less a floor of the right side, and turns the sides.
+    fn turn(&self, floor: u64) -> Option<Narrowing<'a, R, L>>
+        ensures windows { option_map (λ n. set_of n.windows) result ≡ less (L.Rule.meaning self.now.left.now) self.now.limit floor (set_of self.now.windows) }
         ensures turned { IfSome result (λ n. (n.left ≡ self.now.right) × (n.right ≡ self.now.left) × (n.limit ≡ self.now.limit)) }
     {
-        let limit = self.limit.checked_sub(self.right.floor(&self.windows))?;
+        let limit = self.limit.checked_sub(floor)?;
         let mut windows = self.windows;
         self.left.narrow(&mut windows, limit).ok()?;
         Some(Narrowing {
@@ -49,12 +49,13 @@ impl<'a, L: Rule, R: Rule> Narrowing<'a, L, R> {
         })
     }
 
-    // One round: the left side, then the right side on the windows that are left.
+    // One round: the left side, then the right side, each under the cap less the other's floor of the windows as they then are.
     fn round(&self) -> Option<Narrowing<'a, L, R>>
         ensures windows { option_map (λ n. set_of n.windows) result ≡ round_of (L.Rule.meaning self.now.left.now) (R.Rule.meaning self.now.right.now) self.now.limit (set_of self.now.windows) }
         ensures same { IfSome result (λ n. (n.left ≡ self.now.left) × (n.right ≡ self.now.right) × (n.limit ≡ self.now.limit)) }
     {
-        self.turn()?.turn()
+        let middle = self.turn(self.right.floor(&self.windows))?;
+        middle.turn(middle.right.floor(&middle.windows))
     }
 
     // Rounds up to the first that changes nothing.

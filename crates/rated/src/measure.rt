@@ -76,7 +76,8 @@ impl<'a> Forcing<'a> {
     {
         let own = self.may_go(batch, period)?;
         let slot = period as usize - 1;
-        if self.capacities[slot] == 0 {
+        let room = self.capacities[slot];
+        if room == 0 {
             return None;
         }
         let others = self.batches.without(batch);

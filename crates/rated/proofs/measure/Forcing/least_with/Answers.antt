@@ -2,8 +2,8 @@ use Rattle.std.proofs.Common.{◌≡◌, ℕ, List, ap, rules, arith}
 use Rattle.rated.proofs.Forcing.{full, stuck, returned, least_with}
 use Rattle.rated.proofs.measure.Forcing.least_with.Goals as goal
 
-pub returns-then-self-slot-eq0-clause-least : goal.returns-then-self-slot-eq0-clause-least
-returns-then-self-slot-eq0-clause-least c = full c.args.self.now c.args.batch c.args.period c.in_ok-own.own c.in_ok-own.ensures (omega arith) c.if-self-slot-eq0.true
+pub returns-then-room-eq0-clause-least : goal.returns-then-room-eq0-clause-least
+returns-then-room-eq0-clause-least c = full c.args.self.now c.args.batch c.args.period c.in_ok-own.own c.in_ok-own.ensures (omega arith) (omega (arith, c.if-room-eq0.true))
 
 pub returns-in_err-placed-clause-back : goal.returns-in_err-placed-clause-back
 returns-in_err-placed-clause-back c =

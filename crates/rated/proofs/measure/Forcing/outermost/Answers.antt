@@ -1,10 +1,12 @@
-use Rattle.std.proofs.Common.{ℕ, ◌<◌, length, ap, ◌∙◌, arith, length-set}
+use Rattle.std.proofs.Common.{ℕ, ◌<◌, true, false, length, Decides, ap, ◌∙◌, subst, arith, length-set}
 use Rattle.windows.specs.Filling.{set_of}
 use Rattle.windows.proofs.Held.{held_proper}
 use Rattle.rated.specs.Ends.{Outermost}
+use Rattle.rated.specs.Measures.{Affords}
 use Rattle.rated.proofs.Scanned.{each_written, none_more, none_found, outermost_found}
 use Rattle.rated.proofs.measure.Forcing.outermost.Goals as goal
 
+-- that the period asked about is the one stepped to is left to arithmetic, in each of the three
 pub batches-preserved : goal.batches-preserved
 batches-preserved c =
     let f = c.args.self.now in
@@ -14,7 +16,7 @@ batches-preserved c =
     let w = c.args.windows.now in
     let same = c.each-window-items.ensures in
     let inside : i < length (set_of w).each = omega (arith, ap length same) in
-    let o = outermost_found f c.loop-steps.self inv.back c.args.end c.each-window-items.result.now (set_of w).each same i c.loop-steps.steps v c.inward-period.ensures inv.none ((held_proper w).holds i inside) c.loop-steps-test.true c.if-affords.ensures.told in
+    let o = outermost_found f c.loop-steps.self inv.back c.args.end c.each-window-items.result.now (set_of w).each same i c.loop-steps.steps v c.inward-period.ensures inv.none ((held_proper w).holds i inside) c.loop-steps-test.true (subst (λ p. Decides true (Affords c.loop-steps.self i p)) (omega arith) c.if-affords.ensures.told) in
     record {
       back = c.affords.ensures.back ∙ inv.back;
       long = omega (arith, length-set {A = ℕ}, ap length inv.kept);
@@ -27,11 +29,13 @@ loop-steps-preserved c =
     record {
       back = c.affords.ensures.back ∙ inv.back;
       kept = inv.kept;
-      none = none_more c.args.self.now c.loop-steps.self inv.back c.args.end c.each-window-items.result.now (set_of c.args.windows.now).each c.each-window-items.ensures c.batches.batch c.loop-steps.steps c.inward-period.result c.inward-period.ensures inv.none c.if-affords.ensures.told;
+      none = none_more c.args.self.now c.loop-steps.self inv.back c.args.end c.each-window-items.result.now (set_of c.args.windows.now).each c.each-window-items.ensures c.batches.batch c.loop-steps.steps c.inward-period.result c.inward-period.ensures inv.none
+          (subst (λ p. Decides false (Affords c.loop-steps.self c.batches.batch p)) (omega arith) c.if-affords.ensures.told);
     }
 
 pub returns-else-affords-clause-found : goal.returns-else-affords-clause-found
 returns-else-affords-clause-found c =
     let inv = c.loop-steps.invariant in
     let inside : c.batches.batch < length (set_of c.args.windows.now).each = omega (arith, ap length c.each-window-items.ensures) in
-    none_found c.args.self.now c.loop-steps.self inv.back c.args.end c.each-window-items.result.now (set_of c.args.windows.now).each c.each-window-items.ensures c.batches.batch c.loop-steps.steps c.inward-period.result c.inward-period.ensures inv.none inside (omega arith) c.if-affords.ensures.told
+    none_found c.args.self.now c.loop-steps.self inv.back c.args.end c.each-window-items.result.now (set_of c.args.windows.now).each c.each-window-items.ensures c.batches.batch c.loop-steps.steps c.inward-period.result c.inward-period.ensures inv.none inside (omega arith)
+    (subst (λ p. Decides false (Affords c.loop-steps.self c.batches.batch p)) (omega arith) c.if-affords.ensures.told)
